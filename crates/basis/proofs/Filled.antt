@@ -1,0 +1,37 @@
+-- A list with its first places filled.
+use Prim.Native.Nat.{ℕ, zero, suc, _≤_, _<_}
+use mathlib.Core.Path.{_≡_, refl, _∙_, ap, ap₂, sym}
+use mathlib.Core.List.{List}
+use mathlib.Core.Logic.{⊎-elim}
+use native.Mathlib.Nat.{le-step, lt-suc-self, eq-or-lt-of-le, le-of-suc-le-suc}
+use native.Mathlib.Omega.{arith}
+use lib.ListN.{length, set, length-set}
+use lib.Seq.{getD-set-same, getD-set-other}
+use Rattle.basis.specs.Words.{_!_, filled}
+
+pub filled-length : (n : ℕ) (f : ℕ → ℕ) (xs : List ℕ) → length (filled n f xs) ≡ length xs
+unfolding filled
+filled-length zero f xs = refl
+filled-length (suc n) f xs = length-set (filled n f xs) n (f n) ∙ filled-length n f xs
+
+pub filled-beyond : (n : ℕ) (f : ℕ → ℕ) (xs : List ℕ) (i : ℕ) → n ≤ i → filled n f xs ! i ≡ xs ! i
+unfolding filled
+filled-beyond zero f xs i h = refl
+filled-beyond (suc n) f xs i h =
+    getD-set-other (filled n f xs) n i (f n) 0 (omega arith) ∙ filled-beyond n f xs i (omega arith)
+
+pub filled-at : (n : ℕ) (f : ℕ → ℕ) (xs : List ℕ) (i : ℕ) → n ≤ length xs → i < n → filled n f xs ! i ≡ f i
+unfolding filled
+filled-at zero f xs i fits h = omega arith
+filled-at (suc n) f xs i fits h =
+    ⊎-elim last (λ l. getD-set-other (filled n f xs) n i (f n) 0 (omega arith) ∙ filled-at n f xs i (omega arith) l)
+    (eq-or-lt-of-le (le-of-suc-le-suc h))
+  where
+    last : i ≡ n → set (filled n f xs) n (f n) ! i ≡ f i
+    last e = rw e (getD-set-same (filled n f xs) n (f n) 0 (rw (filled-length n f xs) fits))
+
+pub filled-same : (n : ℕ) (f g : ℕ → ℕ) (xs : List ℕ) → ((j : ℕ) → j < n → f j ≡ g j) → filled n f xs ≡ filled n g xs
+unfolding filled
+filled-same zero f g xs h = refl
+filled-same (suc n) f g xs h =
+    ap₂ (λ (l : List ℕ) (x : ℕ). set l n x) (filled-same n f g xs (λ j l. h j (le-step l))) (h n (lt-suc-self n))

@@ -1,0 +1,45 @@
+-- Sums over the numbers below n, and of a list.
+use Prim.Native.Nat.{ℕ, zero, suc, _+_, _*_, _≤_, _<_}
+use mathlib.Core.Path.{_≡_, refl, _∙_, ap, ap₂, sym}
+use mathlib.Core.List.{List, [], _∷_, _++_, map}
+use mathlib.Core.Logic.{⊎-elim}
+use native.Mathlib.Nat.{le-refl, add-le-add, le-step, lt-suc-self, eq-or-lt-of-le, le-of-suc-le-suc, le-trans, zero-add, add-zero, add-assoc}
+use native.Mathlib.Omega.{arith}
+use Rattle.basis.specs.Words.{sumBelow, total}
+
+pub sum-mono : (n : ℕ) (f g : ℕ → ℕ) → ((j : ℕ) → j < n → f j ≤ g j) → sumBelow n f ≤ sumBelow n g
+unfolding sumBelow
+sum-mono zero f g h = le-refl 0
+sum-mono (suc n) f g h = add-le-add (sum-mono n f g (λ j l. h j (le-step l))) (h n (lt-suc-self n))
+
+pub sum-same : (n : ℕ) (f g : ℕ → ℕ) → ((j : ℕ) → j < n → f j ≡ g j) → sumBelow n f ≡ sumBelow n g
+unfolding sumBelow
+sum-same zero f g h = refl
+sum-same (suc n) f g h = ap₂ _+_ (sum-same n f g (λ j l. h j (le-step l))) (h n (lt-suc-self n))
+
+pub sum-plus : (n : ℕ) (f g : ℕ → ℕ) → sumBelow n f + sumBelow n g ≡ sumBelow n (λ j. f j + g j)
+unfolding sumBelow
+sum-plus zero f g = refl
+sum-plus (suc n) f g = let before = sum-plus n f g in omega arith
+
+pub sum-none : (n : ℕ) (f : ℕ → ℕ) → ((j : ℕ) → j < n → f j ≡ 0) → sumBelow n f ≡ 0
+unfolding sumBelow
+sum-none zero f h = refl
+sum-none (suc n) f h =
+    let before = sum-none n f (λ j l. h j (le-step l)) in
+    let last = h n (lt-suc-self n) in
+    omega arith
+
+-- each part is at most the sum
+pub sum-part : (n : ℕ) (f : ℕ → ℕ) (j : ℕ) → j < n → f j ≤ sumBelow n f
+unfolding sumBelow
+sum-part zero f j h = omega arith
+sum-part (suc n) f j h = ⊎-elim (λ e. same (ap f e)) (λ l. let before = sum-part n f j l in omega arith) (eq-or-lt-of-le (le-of-suc-le-suc h))
+  where
+    same : f j ≡ f n → f j ≤ sumBelow n f + f n
+    same e = omega arith
+
+pub total-append : (xs ys : List ℕ) → total (xs ++ ys) ≡ total xs + total ys
+unfolding total
+total-append [] ys = sym (zero-add (total ys))
+total-append (x ∷ xs) ys = ap (λ t. x + t) (total-append xs ys) ∙ sym (add-assoc x (total xs) (total ys))

@@ -1,0 +1,60 @@
+-- What a test says, and the test that a fact passes. (Those of one comparison are the library's, `borrow.Author.Tests`.)
+use Prim.Native.Nat.{ℕ, _≤_}
+use mathlib.Core.Path.{_≡_, refl, sym, _∙_}
+use mathlib.Core.Bool.{Bool, true, false, cond, not, _&&_, _||_, true≢false}
+use mathlib.Core.Logic.{_⊎_, inl, inr}
+use mathlib.Core.Option.{Option, some, none}
+use borrow.Author.Tests.{leb-true, le-leb}
+use lib.Dec.{leb}
+use Rattle.basis.specs.Words.{within, found}
+
+pub true-or-false : (a : Bool) → (a ≡ true) ⊎ (a ≡ false)
+true-or-false true = inl refl
+true-or-false false = inr refl
+
+pub both : {a b : Bool} → a ≡ true → b ≡ true → (a && b) ≡ true
+both p q = rw (p, q)
+
+pub and-left : (a b : Bool) → (a && b) ≡ true → a ≡ true
+and-left true b p = refl
+and-left false b p = p
+
+pub and-right : (a b : Bool) → (a && b) ≡ true → b ≡ true
+and-right true b p = p
+and-right false b p = absurd (true≢false (sym p))
+
+pub or-left : {a : Bool} (b : Bool) → a ≡ true → (a || b) ≡ true
+or-left b p = rw p
+
+pub or-right : (a : Bool) {b : Bool} → b ≡ true → (a || b) ≡ true
+or-right true p = refl
+or-right false p = p
+
+pub or-cases : (a b : Bool) → (a || b) ≡ true → (a ≡ true) ⊎ (b ≡ true)
+or-cases true b p = inl refl
+or-cases false b p = inr p
+
+pub never : {A : Type 0} {a : Bool} → a ≡ true → a ≡ false → A
+never p q = absurd (true≢false (sym p ∙ q))
+
+pub fails : (a : Bool) → (a ≡ true → ⊥) → a ≡ false
+fails true h = absurd (h refl)
+fails false h = refl
+
+pub within-low : (low high x : ℕ) → within low high x ≡ true → low ≤ x
+within-low low high x p = leb-true low x (and-left _ _ p)
+
+pub within-high : (low high x : ℕ) → within low high x ≡ true → x ≤ high
+within-high low high x p = leb-true x high (and-right (leb low x) _ p)
+
+pub is-within : {low high x : ℕ} → low ≤ x → x ≤ high → within low high x ≡ true
+is-within {low} {high} {x} p q = both (le-leb low x p) (le-leb x high q)
+
+-- an answer is there, or is none
+pub found-some : (a : Option ℕ) → found a ≡ true → (x : ℕ) × (a ≡ some x)
+found-some (some x) p = (x, refl)
+found-some none p = never p refl
+
+pub found-none : (a : Option ℕ) → found a ≡ false → a ≡ none
+found-none (some x) p = never refl p
+found-none none p = refl

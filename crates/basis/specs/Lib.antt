@@ -1,0 +1,2 @@
+-- The words that every rule is written in.
+pub mod Words

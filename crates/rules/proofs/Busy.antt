@@ -1,0 +1,122 @@
+-- The busy test: its repetition finds the least fixed point, and finds one within the deadline exactly when some W within it has a sum of at most W.
+use Prim.Native.Nat.{ℕ, suc, _+_, _*_, _≤_, _<_}
+use mathlib.Core.Path.{_≡_, refl, ap, _∙_, sym}
+use mathlib.Core.Bool.{Bool, true, false, cond}
+use mathlib.Core.List.{List}
+use mathlib.Core.Logic.{_↔_}
+use mathlib.Core.Option.{Option, some, none}
+use native.Mathlib.Nat.{le-refl, le-trans, le-antisymm, le-of-eq, add-le-add, mul-le-mul-right, zero-mul}
+use native.Mathlib.Omega.{arith}
+use borrow.Author.Tests.{ltb-true, ltb-false, lt-ltb, le-ltb}
+use lib.Dec.{ltb}
+use Rattle.basis.specs.Words.{_!_, sumBelow, found, settle}
+use Rattle.basis.proofs.Tests.{found-some}
+use Rattle.basis.proofs.Sums.{sum-mono, sum-none}
+use Rattle.basis.proofs.Settle.{Rising, Bound, Settled, settle-some, settle-finds}
+use Rattle.rules.specs.BusyLength.{active, busyStart, refill, busySum, deadline, IsBusyLength, busyTest, passes}
+use Rattle.rules.proofs.Arrivals.{arrivals-mono, arrivals-none}
+
+bounded : (D : ℕ) → Bound (ltb D)
+bounded D x y h p = le-ltb D x (le-trans h (ltb-false D y p))
+
+cond-mono : (t : Bool) {x y : ℕ} → x ≤ y → cond t 0 x ≤ cond t 0 y
+cond-mono true h = le-refl 0
+cond-mono false h = h
+
+module _ (T B b o : List ℕ) where
+  refill-mono : (j W X : ℕ) → W ≤ X → refill T B b o j W ≤ refill T B b o j X
+  unfolding refill
+  refill-mono j W X h = mul-le-mul-right (B ! j) (arrivals-mono (o ! j) (T ! j) W X h)
+
+  -- more ticks, more arrivals
+  pub sum-rising : (h w : ℕ) → Rising (busySum T B b o h w)
+  unfolding busySum
+  sum-rising h w W X l =
+      add-le-add
+      (add-le-add (le-refl (busyStart T B b o h w)) (sum-mono h _ _ (λ j k. refill-mono j W X l)))
+      (cond-mono (active b h) (refill-mono h W X l))
+
+  pub start-le-sum : (h w W : ℕ) → busyStart T B b o h w ≤ busySum T B b o h w W
+  unfolding busySum
+  start-le-sum h w W = omega arith
+
+  -- what the test's answer says
+  pub record Length (h w W : ℕ) : Type 0 where
+    pub least : IsBusyLength T B b o h w W
+    pub within : W ≤ deadline T B b o h
+
+  pub test-some : (h w W : ℕ) → busyTest T B b o h w ≡ some W → Length h w W
+  unfolding busyTest IsBusyLength
+  test-some h w W p =
+      let s = settle-some (busySum T B b o h w) _ (sum-rising h w) _ _ W p in
+      record {
+        least = (s .still, λ X e. s .least X (le-trans (start-le-sum h w X) (le-of-eq e)) (le-of-eq e));
+        within = ltb-false _ W (s .bounded);
+      }
+
+  -- a W within the deadline whose sum it covers: the one thing that everybody else needs to know of the busy test
+  pub record Witness (h w W : ℕ) : Type 0 where
+    pub within : W ≤ deadline T B b o h
+    pub covers : busySum T B b o h w W ≤ W
+
+  witness-finds : (h w W : ℕ) → Witness h w W → (X : ℕ) × (busyTest T B b o h w ≡ some X)
+  unfolding busyTest
+  witness-finds h w W witness =
+      let D : ℕ = deadline T B b o h in
+      let start : ℕ = busyStart T B b o h w in
+      settle-finds (busySum T B b o h w) (ltb D) (sum-rising h w) (bounded D) (suc D) start W (start-le-sum h w start)
+      (le-trans (start-le-sum h w W) (witness .covers)) (witness .covers) (le-ltb D W (witness .within)) (omega arith)
+
+  pub some-test : (h w W : ℕ) → Length h w W → busyTest T B b o h w ≡ some W
+  unfolding IsBusyLength
+  some-test h w W l =
+      let answer = witness-finds h w W (record { within = l .within; covers = le-of-eq (l .least .0) }) in
+      let s = test-some h w (answer .0) (answer .1) in
+      answer .1 ∙ ap some (le-antisymm (s .least .1 W (l .least .0)) (l .least .1 (answer .0) (s .least .0)))
+
+  pub passes-witness : (h w : ℕ) → passes T B b o h w ≡ true → (W : ℕ) × Witness h w W
+  unfolding passes IsBusyLength
+  passes-witness h w p =
+      let answer = found-some (busyTest T B b o h w) p in
+      let l = test-some h w (answer .0) (answer .1) in
+      (answer .0, record { within = l .within; covers = le-of-eq (l .least .0) })
+
+  pub witness-passes : (h w W : ℕ) → Witness h w W → passes T B b o h w ≡ true
+  unfolding passes
+  witness-passes h w W witness = ap found (witness-finds h w W witness .1)
+
+  pub passes-exactly : (h w : ℕ) → (passes T B b o h w ≡ true) ↔ ((W : ℕ) × Witness h w W)
+  passes-exactly h w = (passes-witness h w, λ found. witness-passes h w (found .0) (found .1))
+
+  -- a pass with w is a pass with any smaller w
+  pub passes-smaller : (h v w : ℕ) → v ≤ w → passes T B b o h w ≡ true → passes T B b o h v ≡ true
+  unfolding busySum busyStart
+  passes-smaller h v w l p =
+      let found = passes-witness h w p in
+      let covers : busySum T B b o h w (found .0) ≤ found .0 = found .1 .covers in
+      witness-passes h v (found .0) (record { within = found .1 .within; covers = omega arith })
+
+  -- an active partition that passes with w has w ticks to spare
+  pub passes-spare : (h w : ℕ) → active b h ≡ true → passes T B b o h w ≡ true → w + b ! h ≤ o ! h
+  unfolding deadline busyStart
+  passes-spare h w on p =
+      let found = passes-witness h w p in
+      let covers : busySum T B b o h w (found .0) ≤ found .0 = found .1 .covers in
+      let start = start-le-sum h w (found .0) in
+      let in-time : found .0 ≤ o ! h = rw on at (found .1 .within) in
+      omega arith
+
+  -- where nothing waits at ranks up to h, h passes with w = 1
+  pub quiet-passes : (h : ℕ) → ((j : ℕ) → j ≤ h → b ! j ≡ 0) → ((j : ℕ) → j ≤ h → 1 ≤ o ! j) → passes T B b o h 1 ≡ true
+  unfolding deadline busySum busyStart refill active
+  quiet-passes h empty later =
+      let waits : sumBelow h (λ j. b ! j) ≡ 0 = sum-none h _ (λ j l. empty j (omega arith)) in
+      let off : ltb 0 (b ! h) ≡ false = le-ltb 0 (b ! h) (le-of-eq (empty h (le-refl h))) in
+      let arrive : sumBelow h (λ j. refill T B b o j 1) ≡ 0 = sum-none h _ (λ j l. nothing j (later j (omega arith))) in
+      let mine : refill T B b o h 1 ≡ 0 = nothing h (later h (le-refl h)) in
+      let soon = later h (le-refl h) in
+      let own = empty h (le-refl h) in
+      witness-passes h 1 1 (record { within = rw off (omega arith); covers = rw off (omega arith) })
+    where
+      nothing : (j : ℕ) → 1 ≤ o ! j → refill T B b o j 1 ≡ 0
+      nothing j l = rw (arrivals-none (o ! j) (T ! j) 1 l) (zero-mul (B ! j))

@@ -1,0 +1,15 @@
+-- Document 01, rule by rule and in its order. Quotation marks enclose its sentences.
+pub mod Numbers
+pub mod Admission
+pub mod FreshStart
+pub mod BusyLength
+pub mod StandingTest
+pub mod Candidates
+pub mod Weights
+pub mod Pick
+pub mod Tick
+pub mod Release
+pub mod Run
+pub mod TaskResponse
+pub mod Refusals
+pub mod Sums
