@@ -1,7 +1,7 @@
 -- The words that the rules are written in. Each computes; the laws about them are in proofs/.
 -- Tests are the library's `leb` (≤), `ltb` (<) and `eqb` (=), joined by `&&`, `||` and `not`; `cond test x y` is x where the test passes, else y.
 use Prim.Native.Nat.{ℕ, zero, suc, _+_, _-_, _/_, _≤_, _<_}
-use mathlib.Core.Bool.{Bool, true, false, cond, not, _&&_, _||_}
+use mathlib.Core.Bool.{Bool, true, false, cond, _&&_, _||_}
 use mathlib.Core.List.{List, [], _∷_, _++_}
 use mathlib.Core.Option.{Option, some, none}
 use lib.Dec.{leb, eqb}
@@ -49,6 +49,10 @@ those (suc n) test = those n test ++ cond (test n) (n ∷ []) []
 abbrev pub orElse : Option ℕ → Option ℕ → Option ℕ
 orElse (some i) other = some i
 orElse none other = other
+
+-- x, unless the test passes
+abbrev pub unless : Bool → ℕ → Option ℕ
+unless test x = cond test none (some x)
 
 -- the first number below n that passes the test
 unfoldable pub first : ℕ → (ℕ → Bool) → Option ℕ

@@ -25,9 +25,9 @@ module _ (T B : List ℕ) where
   atRest h W = leb 1 W && eqb W (demand h W)
 
   -- the R of h, if there is one up to T_h: looking at 1, 2, .. T_h decides it
-  unfoldable pub responseOf : ℕ → Option ℕ
-  responseOf h = first (suc (T ! h)) (atRest h)
+  unfoldable pub responseWithin : ℕ → Option ℕ
+  responseWithin h = first (suc (T ! h)) (atRest h)
 
   -- "first failing partition", of n
   unfoldable pub firstUnadmitted : ℕ → Option ℕ
-  firstUnadmitted n = first n (λ h. not (found (responseOf h)))
+  firstUnadmitted n = first n (λ h. not (found (responseWithin h)))

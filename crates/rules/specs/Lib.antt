@@ -13,3 +13,4 @@ pub mod Run
 pub mod TaskResponse
 pub mod Refusals
 pub mod Sums
+pub mod Corners

@@ -1,20 +1,29 @@
 -- The busy test: its repetition finds the least fixed point, and finds one within the deadline exactly when some W within it has a sum of at most W.
-use Prim.Native.Nat.{ℕ, suc, _+_, _*_, _≤_, _<_}
-use mathlib.Core.Path.{_≡_, refl, ap, _∙_, sym}
+use Prim.Native.Nat.{ℕ, suc, _+_, _≤_}
+use mathlib.Core.Path.{_≡_, ap, _∙_}
 use mathlib.Core.Bool.{Bool, true, false, cond}
 use mathlib.Core.List.{List}
 use mathlib.Core.Logic.{_↔_}
-use mathlib.Core.Option.{Option, some, none}
+use mathlib.Core.Option.{some}
 use native.Mathlib.Nat.{le-refl, le-trans, le-antisymm, le-of-eq, add-le-add, mul-le-mul-right, zero-mul}
 use native.Mathlib.Omega.{arith}
-use borrow.Author.Tests.{ltb-true, ltb-false, lt-ltb, le-ltb}
+use borrow.Author.Tests.{ltb-true, ltb-false, le-ltb}
 use lib.Dec.{ltb}
-use Rattle.basis.specs.Words.{_!_, sumBelow, found, settle}
-use Rattle.basis.proofs.Tests.{found-some}
-use Rattle.basis.proofs.Sums.{sum-mono, sum-none}
-use Rattle.basis.proofs.Settle.{Rising, Bound, Settled, settle-some, settle-finds}
+use Rattle.basis.specs.Words.{_!_, sumBelow, found}
+use Rattle.laws.proofs.Tests.{found-some}
+use Rattle.laws.proofs.Totals.{sum-mono, sum-none}
+use Rattle.laws.proofs.Settle.{Rising, Bound, settle-some, settle-finds}
 use Rattle.rules.specs.BusyLength.{active, busyStart, refill, busySum, deadline, IsBusyLength, busyTest, passes}
-use Rattle.rules.proofs.Arrivals.{arrivals-mono, arrivals-none}
+use Rattle.laws.proofs.Arrivals.{arrivals-mono, arrivals-none}
+
+-- active or empty
+pub active-some : (b : List ℕ) (h : ℕ) → active b h ≡ true → 1 ≤ b ! h
+unfolding active
+active-some b h p = ltb-true 0 (b ! h) p
+
+pub inactive-empty : (b : List ℕ) (h : ℕ) → active b h ≡ false → b ! h ≡ 0
+unfolding active
+inactive-empty b h p = let none-left = ltb-false 0 (b ! h) p in omega arith
 
 bounded : (D : ℕ) → Bound (ltb D)
 bounded D x y h p = le-ltb D x (le-trans h (ltb-false D y p))
@@ -73,6 +82,10 @@ module _ (T B b o : List ℕ) where
       let answer = witness-finds h w W (record { within = l .within; covers = le-of-eq (l .least .0) }) in
       let s = test-some h w (answer .0) (answer .1) in
       answer .1 ∙ ap some (le-antisymm (s .least .1 W (l .least .0)) (l .least .1 (answer .0) (s .least .0)))
+
+  -- the repetition finds the least fixed point
+  pub test-exactly : (h w W : ℕ) → (busyTest T B b o h w ≡ some W) ↔ Length h w W
+  test-exactly h w W = (test-some h w W, some-test h w W)
 
   pub passes-witness : (h w : ℕ) → passes T B b o h w ≡ true → (W : ℕ) × Witness h w W
   unfolding passes IsBusyLength

@@ -1,11 +1,11 @@
 -- The count of arrivals: these are the only facts about division that the guarantee needs.
 use Prim.Native.Nat.{ℕ, suc, _+_, _-_, _≤_, _<_}
 use mathlib.Core.Path.{_≡_, ap, _∙_, sym}
-use native.Mathlib.Nat.{suc-sub-suc, sub-le, sub-eq-zero-of-le, le-of-eq}
+use native.Mathlib.Nat.{suc-sub-suc, sub-le, sub-eq-zero-of-le}
 use native.Mathlib.Omega.{arith}
 use Rattle.basis.specs.Words.{ceil}
-use Rattle.basis.proofs.Ceil.{ceil-le, ceil-zero, ceil-mono, ceil-step}
+use Rattle.laws.proofs.Ceil.{ceil-le, ceil-zero, ceil-mono, ceil-step}
 use Rattle.rules.specs.BusyLength.{arrivals}
 
 -- time moves by one
 pub arrivals-later : (o T W : ℕ) → arrivals (suc o) T (suc W) ≡ arrivals o T W

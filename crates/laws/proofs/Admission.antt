@@ -1,22 +1,22 @@
 -- Admission: looking at 1, 2, .. T_h decides it, and it is the busy test with w = 0 at b = B, o = T.
 use Prim.Native.Nat.{ℕ, suc, _+_, _*_, _≤_, _<_}
-use mathlib.Core.Path.{_≡_, refl, ap, _∙_, sym}
-use mathlib.Core.Bool.{Bool, true, false, cond, not}
+use mathlib.Core.Path.{_≡_, refl, _∙_, sym}
+use mathlib.Core.Bool.{true, false}
 use mathlib.Core.List.{List}
 use mathlib.Core.Logic.{_↔_}
 use mathlib.Core.Option.{Option, some, none}
-use native.Mathlib.Nat.{le-refl, le-trans, le-antisymm, le-of-eq, le-of-suc-le-suc}
+use native.Mathlib.Nat.{le-of-suc-le-suc}
 use native.Mathlib.Omega.{arith}
 use borrow.Author.Tests.{leb-true, le-leb, eqb-true, eq-eqb, lt-ltb, not-false}
-use lib.Dec.{leb, eqb, ltb}
-use Rattle.basis.specs.Words.{_!_, ceil, sumBelow, found}
-use Rattle.basis.proofs.Tests.{both, and-left, and-right, never, found-some, fails}
-use Rattle.basis.proofs.Places.{First, first-some, some-first, first-none, none-first}
-use Rattle.basis.proofs.Sums.{sum-same, sum-plus}
-use Rattle.rules.specs.Admission.{demand, atRest, IsR, Admitted, responseOf, firstUnadmitted}
+use lib.Dec.{leb}
+use Rattle.basis.specs.Words.{_!_, ceil, sumBelow}
+use Rattle.laws.proofs.Tests.{both, and-left, and-right, never, found-some, fails}
+use Rattle.laws.proofs.Places.{First, first-some, some-first, first-none, none-first}
+use Rattle.laws.proofs.Totals.{sum-same, sum-plus}
+use Rattle.rules.specs.Admission.{demand, atRest, IsR, Admitted, responseWithin, firstUnadmitted}
 use Rattle.rules.specs.BusyLength.{active, busyStart, refill, busySum, deadline, IsBusyLength, busyTest}
-use Rattle.rules.proofs.Arrivals.{arrivals-synchronous}
-use Rattle.rules.proofs.Busy.{Length, test-some, some-test, start-le-sum}
+use Rattle.laws.proofs.Arrivals.{arrivals-synchronous}
+use Rattle.laws.proofs.BusyLength.{Length, test-some, some-test, start-le-sum}
 
 module _ (T B : List ℕ) where
   -- R exists and is at most T_h
@@ -32,8 +32,8 @@ module _ (T B : List ℕ) where
   unfolding atRest
   rests h W p = (leb-true 1 W (and-left _ _ p), eqb-true W _ (and-right (leb 1 W) _ p))
 
-  pub response-some : (h R : ℕ) → responseOf T B h ≡ some R → Response h R
-  unfolding responseOf IsR
+  pub response-some : (h R : ℕ) → responseWithin T B h ≡ some R → Response h R
+  unfolding responseWithin IsR
   response-some h R p =
       let f : First (suc (T ! h)) (atRest T B h) R = first-some (suc (T ! h)) (atRest T B h) R p in
       record { least = (rests h R (f .passed), λ X e. no-less X e (f .earlier X)); within = le-of-suc-le-suc (f .below) }
@@ -41,8 +41,8 @@ module _ (T B : List ℕ) where
       no-less : (X : ℕ) → (1 ≤ X) × (X ≡ demand T B h X) → (X < R → atRest T B h X ≡ false) → R ≤ X
       no-less X e earlier = let not-less : ¬ (X < R) = λ l. never (at-rest h X e) (earlier l) in omega arith
 
-  pub some-response : (h R : ℕ) → Response h R → responseOf T B h ≡ some R
-  unfolding responseOf IsR
+  pub some-response : (h R : ℕ) → Response h R → responseWithin T B h ≡ some R
+  unfolding responseWithin IsR
   some-response h R r =
       some-first (suc (T ! h)) (atRest T B h) R
       (record {
@@ -52,7 +52,7 @@ module _ (T B : List ℕ) where
       })
 
   -- looking at 1, 2, .. T_h decides whether R exists and is at most T_h
-  pub response-exactly : (h R : ℕ) → (responseOf T B h ≡ some R) ↔ Response h R
+  pub response-exactly : (h R : ℕ) → (responseWithin T B h ≡ some R) ↔ Response h R
   response-exactly h R = (response-some h R, some-response h R)
 
   -- the first failing partition is none exactly when 01's sentence holds
@@ -62,7 +62,7 @@ module _ (T B : List ℕ) where
     where
       from : firstUnadmitted T B n ≡ none → (h : ℕ) → h < n → (R : ℕ) × IsR T B h R × (R ≤ T ! h)
       from p h l =
-          let answer = found-some (responseOf T B h) (not-false _ (first-none n _ p h l)) in
+          let answer = found-some (responseWithin T B h) (not-false _ (first-none n _ p h l)) in
           let r = response-some h (answer .0) (answer .1) in
           (answer .0, r .least, r .within)
 
@@ -113,10 +113,10 @@ module _ (T B : List ℕ) where
         }
 
     -- both ways, and the busy length is R
-    pub admission-is-busy : busyTest T B B T h 0 ≡ responseOf T B h
-    admission-is-busy = go (busyTest T B B T h 0) refl (responseOf T B h) refl
+    pub admission-is-busy : busyTest T B B T h 0 ≡ responseWithin T B h
+    admission-is-busy = go (busyTest T B B T h 0) refl (responseWithin T B h) refl
       where
-        go : (x : Option ℕ) → busyTest T B B T h 0 ≡ x → (y : Option ℕ) → responseOf T B h ≡ y → x ≡ y
+        go : (x : Option ℕ) → busyTest T B B T h 0 ≡ x → (y : Option ℕ) → responseWithin T B h ≡ y → x ≡ y
         go (some W) e y d = sym (some-response h W (busy-response W (test-some T B B T h 0 W e))) ∙ d
         go none e (some R) d = sym e ∙ some-test T B B T h 0 R (response-busy R (response-some h R d))
         go none e none d = refl

@@ -2,13 +2,13 @@
 use Prim.Native.Nat.{ℕ, zero, suc, _+_, _≤_, _<_}
 use mathlib.Core.Path.{_≡_, refl, _∙_, ap, sym}
 use mathlib.Core.Bool.{Bool, true, false, cond}
-use mathlib.Core.Option.{Option, some, none}
-use native.Mathlib.Nat.{le-refl, le-trans, le-of-eq}
+use mathlib.Core.Option.{some, none}
+use native.Mathlib.Nat.{le-trans}
 use native.Mathlib.Omega.{arith}
 use borrow.Author.Tests.{eqb-true, eqb-false}
 use lib.Dec.{eqb}
 use Rattle.basis.specs.Words.{settle}
-use Rattle.basis.proofs.Tests.{never}
+use Rattle.laws.proofs.Tests.{never}
 
 -- a function that never falls
 abbrev pub Rising : (ℕ → ℕ) → Type 0

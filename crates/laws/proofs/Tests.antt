@@ -1,12 +1,12 @@
 -- What a test says, and the test that a fact passes. (Those of one comparison are the library's, `borrow.Author.Tests`.)
-use Prim.Native.Nat.{ℕ, _≤_}
+use Prim.Native.Nat.{ℕ, _≤_, _<_}
 use mathlib.Core.Path.{_≡_, refl, sym, _∙_}
-use mathlib.Core.Bool.{Bool, true, false, cond, not, _&&_, _||_, true≢false}
-use mathlib.Core.Logic.{_⊎_, inl, inr}
+use mathlib.Core.Bool.{Bool, true, false, _&&_, _||_, true≢false}
+use mathlib.Core.Logic.{_⊎_, inl, inr, ⊎-elim}
 use mathlib.Core.Option.{Option, some, none}
-use borrow.Author.Tests.{leb-true, le-leb}
-use lib.Dec.{leb}
+use borrow.Author.Tests.{leb-true, le-leb, ltb-true, ltb-false}
+use lib.Dec.{leb, ltb}
 use Rattle.basis.specs.Words.{within, found}
 
 pub true-or-false : (a : Bool) → (a ≡ true) ⊎ (a ≡ false)
 true-or-false true = inl refl
@@ -58,3 +58,6 @@ found-some none p = never p refl
 pub found-none : (a : Option ℕ) → found a ≡ false → a ≡ none
 found-none (some x) p = never refl p
 found-none none p = refl
+
+pub below-or-not : (i n : ℕ) → (i < n) ⊎ (n ≤ i)
+below-or-not i n = ⊎-elim (λ p. inl (ltb-true i n p)) (λ p. inr (ltb-false i n p)) (true-or-false (ltb i n))

@@ -1,9 +1,9 @@
 -- The quotient rounded up. The first two laws are all that the others, and every rule, need to know of division.
 use Prim.Native.Nat.{ℕ, zero, suc, _+_, _-_, _*_, _≤_, _<_}
-use mathlib.Core.Path.{_≡_, refl, _∙_, ap}
-use native.Mathlib.Nat.{div-lt-iff-lt-mul, div-zero, div-eq-of-lt, zero-add, le-refl, le-trans, le-antisymm, zero-mul, le-of-suc-le-suc, le-of-eq}
+use mathlib.Core.Path.{_≡_}
+use native.Mathlib.Nat.{div-lt-iff-lt-mul, div-zero, le-refl, le-trans, le-antisymm, zero-mul, le-of-suc-le-suc, le-of-eq}
 use native.Mathlib.Omega.{arith}
 use Rattle.basis.specs.Words.{ceil}
 
 pub ceil-le : (x T m : ℕ) → 0 < T → x ≤ m * T → ceil x T ≤ m
 unfolding ceil

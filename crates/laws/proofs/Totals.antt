@@ -1,11 +1,15 @@
 -- Sums over the numbers below n, and of a list.
-use Prim.Native.Nat.{ℕ, zero, suc, _+_, _*_, _≤_, _<_}
+use Prim.Native.Nat.{ℕ, zero, suc, _+_, _≤_, _<_}
 use mathlib.Core.Path.{_≡_, refl, _∙_, ap, ap₂, sym}
-use mathlib.Core.List.{List, [], _∷_, _++_, map}
+use mathlib.Core.List.{List, [], _∷_, _++_, map, map-append}
 use mathlib.Core.Logic.{⊎-elim}
-use native.Mathlib.Nat.{le-refl, add-le-add, le-step, lt-suc-self, eq-or-lt-of-le, le-of-suc-le-suc, le-trans, zero-add, add-zero, add-assoc}
+use mathlib.Core.Bool.{Bool, true, false, cond}
+use borrow.Author.Tests.{eqb-true}
+use lib.Dec.{eqb}
+use native.Mathlib.Nat.{le-refl, add-le-add, le-step, lt-suc-self, eq-or-lt-of-le, le-of-suc-le-suc, zero-add, add-zero, add-assoc}
 use native.Mathlib.Omega.{arith}
-use Rattle.basis.specs.Words.{sumBelow, total}
+use Rattle.basis.specs.Words.{sumBelow, total, has, those}
+use Rattle.laws.proofs.Tests.{or-cases, never}
 
 pub sum-mono : (n : ℕ) (f g : ℕ → ℕ) → ((j : ℕ) → j < n → f j ≤ g j) → sumBelow n f ≤ sumBelow n g
 unfolding sumBelow
@@ -43,3 +47,26 @@ pub total-append : (xs ys : List ℕ) → total (xs ++ ys) ≡ total xs + total 
 unfolding total
 total-append [] ys = sym (zero-add (total ys))
 total-append (x ∷ xs) ys = ap (λ t. x + t) (total-append xs ys) ∙ sym (add-assoc x (total xs) (total ys))
+
+-- each entry's value is at most the sum of all
+pub total-part : (f : ℕ → ℕ) (xs : List ℕ) (x : ℕ) → has xs x ≡ true → f x ≤ total (map f xs)
+unfolding total has
+total-part f [] x p = never p refl
+total-part f (y ∷ ys) x p =
+    ⊎-elim (λ q. same (ap f (eqb-true x y q))) (λ q. let later = total-part f ys x q in omega arith) (or-cases (eqb x y) (has ys x) p)
+  where
+    same : f x ≡ f y → f x ≤ f y + total (map f ys)
+    same e = omega arith
+
+-- the sum over those below n that pass a test
+pub total-those : (f : ℕ → ℕ) (n : ℕ) (test : ℕ → Bool) → total (map f (those n test)) ≡ sumBelow n (λ i. cond (test i) (f i) 0)
+unfolding those sumBelow total
+total-those f zero test = refl
+total-those f (suc n) test =
+    ap total (map-append f (those n test) (cond (test n) (n ∷ []) []))
+    ∙ total-append (map f (those n test)) _
+    ∙ ap₂ _+_ (total-those f n test) (last (test n))
+  where
+    last : (t : Bool) → total (map f (cond t (n ∷ []) [])) ≡ cond t (f n) 0
+    last true = add-zero (f n)
+    last false = refl

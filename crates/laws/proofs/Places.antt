@@ -1,18 +1,18 @@
 -- The first number below n that passes a test, all of them, those of them, and what a list has.
-use Prim.Native.Nat.{ℕ, zero, suc, _+_, _≤_, _<_}
+use Prim.Native.Nat.{ℕ, zero, suc, _<_}
 use mathlib.Core.Path.{_≡_, refl, _∙_, ap, ap₂, sym}
-use mathlib.Core.Bool.{Bool, true, false, cond, not, _&&_, _||_}
-use mathlib.Core.List.{List, [], _∷_, _++_, append-nil}
+use mathlib.Core.Bool.{Bool, true, false, cond, _&&_, _||_}
+use mathlib.Core.List.{List, [], _∷_, _++_, append-nil, map, map-append}
 use mathlib.Core.Option.{Option, some, none}
-use mathlib.Core.Logic.{_⊎_, inl, inr, ⊎-elim}
-use native.Mathlib.Nat.{le-step, lt-suc-self, eq-or-lt-of-le, le-of-suc-le-suc, zero-add}
+use mathlib.Core.Logic.{⊎-elim}
+use native.Mathlib.Nat.{le-step, lt-suc-self, eq-or-lt-of-le, le-of-suc-le-suc}
 use native.Mathlib.Omega.{arith}
 use borrow.Author.Tests.{eqb-true, eq-eqb}
 use lib.Dec.{eqb}
-use lib.ListN.{length, getD, length-append, List·getD-append}
+use lib.ListN.{length, length-append, List·getD-append}
 use lib.Seq.{getD-append-seam}
 use Rattle.basis.specs.Words.{_!_, has, all, those, first, orElse, Increasing}
-use Rattle.basis.proofs.Tests.{true-or-false, both, and-left, and-right, or-left, or-right, or-cases, never}
+use Rattle.laws.proofs.Tests.{both, and-left, and-right, or-left, or-right, or-cases, never}
 
 -- a number below n + 1 is n or below n
 below-cases : {A : Type 0} (n i : ℕ) → i < suc n → (i ≡ n → A) → (i < n → A) → A
@@ -112,6 +112,14 @@ pub one-has : (x : ℕ) → has (x ∷ []) x ≡ true
 unfolding has
 one-has x = or-left false (eq-eqb x x refl)
 
+pub has-none : (x : ℕ) → has [] x ≡ false
+unfolding has
+has-none x = refl
+
+pub has-some : (xs : List ℕ) (x : ℕ) → has xs x ≡ true → 0 < length xs
+has-some [] x p = never p (has-none x)
+has-some (y ∷ ys) x p = omega arith
+
 pub has-entry : (xs : List ℕ) (i : ℕ) → i < length xs → has xs (xs ! i) ≡ true
 unfolding has
 has-entry [] i h = absurd (omega arith)
@@ -158,7 +166,7 @@ has-those (suc n) test x m =
         let here : has (cond (test n) (n ∷ []) []) x ≡ true = rw (sym (ap test e) ∙ m .passed, e) (one-has n) in
         or-right (has (those n test) x) here
 
-increasing-more : (xs : List ℕ) (y : ℕ) → Increasing xs → ((i : ℕ) → i < length xs → xs ! i < y) → Increasing (xs ++ y ∷ [])
+pub increasing-more : (xs : List ℕ) (y : ℕ) → Increasing xs → ((i : ℕ) → i < length xs → xs ! i < y) → Increasing (xs ++ y ∷ [])
 increasing-more xs y up less i j h k =
     below-cases (length xs) j (omega (arith, length-append xs (y ∷ []))) last before
   where
@@ -176,3 +184,15 @@ those-increasing (suc n) test = go (test n) (those-increasing n test)
     go : (t : Bool) → Increasing (those n test) → Increasing (those n test ++ cond t (n ∷ []) [])
     go true up = increasing-more (those n test) n up (λ i l. those-has n test _ (has-entry (those n test) i l) .below)
     go false up = rw append-nil up
+
+pub map-those-same : {A : Type 0} (n : ℕ) (test : ℕ → Bool) (f g : ℕ → A) → ((i : ℕ) → i < n → f i ≡ g i) → map f (those n test) ≡ map g (those n test)
+unfolding those
+map-those-same zero test f g h = refl
+map-those-same (suc n) test f g h =
+    map-append f (those n test) _
+    ∙ ap₂ _++_ (map-those-same n test f g (λ i l. h i (le-step l))) (last (test n))
+    ∙ sym (map-append g (those n test) _)
+  where
+    last : (t : Bool) → map f (cond t (n ∷ []) []) ≡ map g (cond t (n ∷ []) [])
+    last true = ap (λ x. x ∷ []) (h n (lt-suc-self n))
+    last false = refl

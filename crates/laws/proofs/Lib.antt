@@ -1,0 +1,22 @@
+-- The laws. First those about the words, a file for each subject.
+pub mod Tests
+pub mod Ceil
+pub mod Totals
+pub mod Places
+pub mod Filled
+pub mod Settle
+-- Then those about the rules: a file has the name of the rules that its laws are about.
+pub mod Numbers
+pub mod Arrivals
+pub mod BusyLength
+pub mod Admission
+pub mod Candidates
+pub mod Weights
+pub mod Pick
+pub mod Refusals
+-- a fresh start, a tick and a release give states in range
+pub mod Keeps
+-- entries beyond the count are no part of a table
+pub mod Beyond
+-- the premises can be met
+pub mod Example

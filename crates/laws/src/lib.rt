@@ -1,0 +1,1 @@
+// The laws about the words and the rules: no code, only proofs/.
