@@ -1,4 +1,4 @@
--- The words that the rules are written in. Each computes; the laws about them are in proofs/.
+-- The words that the rules are written in. Each computes: specs/Shown.antt has every one at work.
 -- Tests are the library's `leb` (≤), `ltb` (<) and `eqb` (=), joined by `&&`, `||` and `not`; `cond test x y` is x where the test passes, else y.
 use Prim.Native.Nat.{ℕ, zero, suc, _+_, _-_, _/_, _≤_, _<_}
 use mathlib.Core.Bool.{Bool, true, false, cond, _&&_, _||_}
@@ -77,7 +77,7 @@ Increasing xs = (i j : ℕ) → i < j → j < length xs → xs ! i < xs ! j
 abbrev pub Least : (ℕ → Type 0) → ℕ → Type 0
 Least P x = P x × ((y : ℕ) → P y → x ≤ y)
 
--- x, f x, f (f x), .. until it stands still, at most `rounds` numbers; no answer once a number is past the bound
+-- x, f x, f (f x), .. until it stands still: that number. No answer once one is past the bound, or after so many rounds.
 unfoldable pub settle : ℕ → (ℕ → ℕ) → (ℕ → Bool) → ℕ → Option ℕ
 settle zero f past x = none
 settle (suc rounds) f past x =

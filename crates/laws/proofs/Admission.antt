@@ -78,14 +78,14 @@ module _ (T B : List ℕ) where
     sum-is-demand : (W : ℕ) → 1 ≤ W → busySum T B B T h 0 W ≡ demand T B h W
     unfolding busySum busyStart refill demand
     sum-is-demand W pos =
-        let each : sumBelow h (λ j. B ! j + refill T B B T j W) ≡ sumBelow h (λ j. ceil W (T ! j) * B ! j) = sum-same h _ _ one in
-        let joined = sum-plus h (λ j. B ! j) (λ j. refill T B B T j W) in
+        let each : sumBelow h (λ j. B ! j + refill T B T j W) ≡ sumBelow h (λ j. ceil W (T ! j) * B ! j) = sum-same h _ _ one in
+        let joined = sum-plus h (λ j. B ! j) (λ j. refill T B T j W) in
         rw on (omega arith)
       where
-        one : (j : ℕ) → j < h → B ! j + refill T B B T j W ≡ ceil W (T ! j) * B ! j
+        one : (j : ℕ) → j < h → B ! j + refill T B T j W ≡ ceil W (T ! j) * B ! j
         one j l = rw (← (arrivals-synchronous (T ! j) W (periods j l) pos)) (omega arith)
 
-    due : deadline T B B T h ≡ T ! h
+    due : deadline T B T h ≡ T ! h
     unfolding deadline
     due = rw on
 

@@ -74,7 +74,7 @@ module _ (n : ℕ) (T B T′ B′ : List ℕ) (t : Agree n T T′) (u : Agree n 
         outside : (i : ℕ) → n ≤ i → not (pairInRange n T B b o i) ≡ not (pairInRange n T′ B′ b o i)
         outside i l = rw (le-ltb i n l)
 
-    refill-same : (j : ℕ) → j < n → (W : ℕ) → refill T B b o j W ≡ refill T′ B′ b o j W
+    refill-same : (j : ℕ) → j < n → (W : ℕ) → refill T B o j W ≡ refill T′ B′ o j W
     unfolding refill
     refill-same j l W = rw (t j l, u j l)
 
@@ -85,7 +85,7 @@ module _ (n : ℕ) (T B T′ B′ : List ℕ) (t : Agree n T T′) (u : Agree n 
         (sum-same h _ _ (λ j k. refill-same j (lt-trans k l) W))
         (refill-same h l W)
 
-    deadline-same : (h : ℕ) → h < n → deadline T B b o h ≡ deadline T′ B′ b o h
+    deadline-same : (h : ℕ) → h < n → deadline T b o h ≡ deadline T′ b o h
     unfolding deadline
     deadline-same h l = rw (t h l)
 
@@ -104,7 +104,7 @@ module _ (n : ℕ) (T B T′ B′ : List ℕ) (t : Agree n T T′) (u : Agree n 
     unfolding firstFailing
     failing-same = first-same n _ _ (λ h l. ap not (passes-same h l 0))
 
-    may-same : (w c : ℕ) → c ≤ n → mayRun n T B b o w c ≡ mayRun n T′ B′ b o w c
+    may-same : (w c : ℕ) → c ≤ n → mayRun T B b o w c ≡ mayRun T′ B′ b o w c
     unfolding mayRun
     may-same w c l = ap (λ x. all c (λ h. not (active b h)) || x) (all-same c _ _ (λ h k. passes-same h (lt-of-lt-of-le k l) w))
 

@@ -33,7 +33,7 @@ cond-mono true h = le-refl 0
 cond-mono false h = h
 
 module _ (T B b o : List ℕ) where
-  refill-mono : (j W X : ℕ) → W ≤ X → refill T B b o j W ≤ refill T B b o j X
+  refill-mono : (j W X : ℕ) → W ≤ X → refill T B o j W ≤ refill T B o j X
   unfolding refill
   refill-mono j W X h = mul-le-mul-right (B ! j) (arrivals-mono (o ! j) (T ! j) W X h)
 
@@ -42,17 +42,17 @@ module _ (T B b o : List ℕ) where
   unfolding busySum
   sum-rising h w W X l =
       add-le-add
-      (add-le-add (le-refl (busyStart T B b o h w)) (sum-mono h _ _ (λ j k. refill-mono j W X l)))
+      (add-le-add (le-refl (busyStart b h w)) (sum-mono h _ _ (λ j k. refill-mono j W X l)))
       (cond-mono (active b h) (refill-mono h W X l))
 
-  pub start-le-sum : (h w W : ℕ) → busyStart T B b o h w ≤ busySum T B b o h w W
+  pub start-le-sum : (h w W : ℕ) → busyStart b h w ≤ busySum T B b o h w W
   unfolding busySum
   start-le-sum h w W = omega arith
 
   -- what the test's answer says
   pub record Length (h w W : ℕ) : Type 0 where
     pub least : IsBusyLength T B b o h w W
-    pub within : W ≤ deadline T B b o h
+    pub within : W ≤ deadline T b o h
 
   pub test-some : (h w W : ℕ) → busyTest T B b o h w ≡ some W → Length h w W
   unfolding busyTest IsBusyLength
@@ -65,14 +65,14 @@ module _ (T B b o : List ℕ) where
 
   -- a W within the deadline whose sum it covers: the one thing that everybody else needs to know of the busy test
   pub record Witness (h w W : ℕ) : Type 0 where
-    pub within : W ≤ deadline T B b o h
+    pub within : W ≤ deadline T b o h
     pub covers : busySum T B b o h w W ≤ W
 
   witness-finds : (h w W : ℕ) → Witness h w W → (X : ℕ) × (busyTest T B b o h w ≡ some X)
   unfolding busyTest
   witness-finds h w W witness =
-      let D : ℕ = deadline T B b o h in
-      let start : ℕ = busyStart T B b o h w in
+      let D : ℕ = deadline T b o h in
+      let start : ℕ = busyStart b h w in
       settle-finds (busySum T B b o h w) (ltb D) (sum-rising h w) (bounded D) (suc D) start W (start-le-sum h w start)
       (le-trans (start-le-sum h w W) (witness .covers)) (witness .covers) (le-ltb D W (witness .within)) (omega arith)
 
@@ -125,11 +125,11 @@ module _ (T B b o : List ℕ) where
   quiet-passes h empty later =
       let waits : sumBelow h (λ j. b ! j) ≡ 0 = sum-none h _ (λ j l. empty j (omega arith)) in
       let off : ltb 0 (b ! h) ≡ false = le-ltb 0 (b ! h) (le-of-eq (empty h (le-refl h))) in
-      let arrive : sumBelow h (λ j. refill T B b o j 1) ≡ 0 = sum-none h _ (λ j l. nothing j (later j (omega arith))) in
-      let mine : refill T B b o h 1 ≡ 0 = nothing h (later h (le-refl h)) in
+      let arrive : sumBelow h (λ j. refill T B o j 1) ≡ 0 = sum-none h _ (λ j l. nothing j (later j (omega arith))) in
+      let mine : refill T B o h 1 ≡ 0 = nothing h (later h (le-refl h)) in
       let soon = later h (le-refl h) in
       let own = empty h (le-refl h) in
       witness-passes h 1 1 (record { within = rw off (omega arith); covers = rw off (omega arith) })
     where
-      nothing : (j : ℕ) → 1 ≤ o ! j → refill T B b o j 1 ≡ 0
+      nothing : (j : ℕ) → 1 ≤ o ! j → refill T B o j 1 ≡ 0
       nothing j l = rw (arrivals-none (o ! j) (T ! j) 1 l) (zero-mul (B ! j))

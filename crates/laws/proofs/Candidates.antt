@@ -16,7 +16,7 @@ use Rattle.rules.specs.BusyLength.{active, passes}
 use Rattle.rules.specs.Candidates.{mayRun, members, idleListed, candidates, idle}
 
 -- With w = 1 the tests alone decide: nothing waits above the first active partition, so all above it pass.
-pub tests-decide : (n : ℕ) (T B b o : List ℕ) (c : ℕ) → ((j : ℕ) → j < c → 1 ≤ o ! j) → mayRun n T B b o 1 c ≡ all c (λ h. passes T B b o h 1)
+pub tests-decide : (n : ℕ) (T B b o : List ℕ) (c : ℕ) → ((j : ℕ) → j < c → 1 ≤ o ! j) → mayRun T B b o 1 c ≡ all c (λ h. passes T B b o h 1)
 unfolding mayRun
 tests-decide n T B b o c later = go (all c (λ h. not (active b h))) refl
   where
@@ -35,7 +35,7 @@ module _ (n : ℕ) (T B b o : List ℕ) (w : ℕ) where
   pub record Listed (c : ℕ) : Type 0 where
     pub there : c < n
     pub on : active b c ≡ true
-    pub may : mayRun n T B b o w c ≡ true
+    pub may : mayRun T B b o w c ≡ true
 
   pub member-listed : (c : ℕ) → has (members n T B b o w) c ≡ true → Listed c
   unfolding members
@@ -68,7 +68,7 @@ module _ (n : ℕ) (T B b o : List ℕ) (w : ℕ) where
       has-append (members n T B b o w) _ idle ∙ or-right (has (members n T B b o w) idle) (rw e (one-has idle))
 
   -- "The first active one is always in."
-  pub first-active-may : (c : ℕ) → ((h : ℕ) → h < c → active b h ≡ false) → mayRun n T B b o w c ≡ true
+  pub first-active-may : (c : ℕ) → ((h : ℕ) → h < c → active b h ≡ false) → mayRun T B b o w c ≡ true
   unfolding mayRun
   first-active-may c off = or-left _ (true-all c _ (λ h l. rw (off h l)))
 

@@ -62,29 +62,29 @@ module _ (n : ℕ) (T B phase b o : List ℕ) (w : ℕ) (t : TableInRange n T B 
 
   -- what a partition adds to the sum
   share : ℕ → ℕ
-  share c = cond (active b c && mayRun n T B b o w c) (weight b o c) 0
+  share c = cond (active b c && mayRun T B b o w c) (weight b o c) 0
 
   members-total : total (memberWeights n T B b o w) ≡ sumBelow n share
   unfolding memberWeights members share
-  members-total = total-those (weight b o) n (λ c. active b c && mayRun n T B b o w c)
+  members-total = total-those (weight b o) n (λ c. active b c && mayRun T B b o w c)
 
-  share-off : (c : ℕ) → (active b c && mayRun n T B b o w c) ≡ false → share c ≡ 0
+  share-off : (c : ℕ) → (active b c && mayRun T B b o w c) ≡ false → share c ≡ 0
   unfolding share
   share-off c e = rw e
 
-  share-on : (c : ℕ) → (active b c && mayRun n T B b o w c) ≡ true → share c ≡ weight b o c
+  share-on : (c : ℕ) → (active b c && mayRun T B b o w c) ≡ true → share c ≡ weight b o c
   unfolding share
   share-on c e = rw e
 
   share-inactive : (c : ℕ) → active b c ≡ false → share c ≡ 0
-  share-inactive c off = share-off c (ap (λ (a : Bool). a && mayRun n T B b o w c) off)
+  share-inactive c off = share-off c (ap (λ (a : Bool). a && mayRun T B b o w c) off)
 
   record Bounded (k : ℕ) : Type 0 where
     any : sumBelow k share ≤ 65535 * k + 2 ^ 28
     passing : all k (λ h. passes T B b o h w) ≡ true → sumBelow k share ≤ 65535 * k
 
   -- those above a listed partition passed, or are inactive
-  above-listed : (k : ℕ) → mayRun n T B b o w k ≡ true → Bounded k → sumBelow k share ≤ 65535 * k
+  above-listed : (k : ℕ) → mayRun T B b o w k ≡ true → Bounded k → sumBelow k share ≤ 65535 * k
   unfolding mayRun
   above-listed k may before = ⊎-elim quiet (before .passing) (or-cases (all k (λ h. not (active b h))) _ may)
     where
@@ -97,9 +97,9 @@ module _ (n : ℕ) (T B phase b o : List ℕ) (w : ℕ) (t : TableInRange n T B 
   bounded : 1 ≤ w → (k : ℕ) → k ≤ n → Bounded k
   unfolding sumBelow all
   bounded pos zero l = record { any = omega arith; passing = λ p. omega arith }
-  bounded pos (suc k) l = go (active b k && mayRun n T B b o w k) refl (bounded pos k (le-of-suc-le l))
+  bounded pos (suc k) l = go (active b k && mayRun T B b o w k) refl (bounded pos k (le-of-suc-le l))
     where
-      go : (a : Bool) → (active b k && mayRun n T B b o w k) ≡ a → Bounded k → Bounded (suc k)
+      go : (a : Bool) → (active b k && mayRun T B b o w k) ≡ a → Bounded k → Bounded (suc k)
       go true e before =
           let on : active b k ≡ true = and-left _ _ e in
           let above = above-listed k (and-right (active b k) _ e) before in

@@ -15,31 +15,31 @@ arrivals o T W = ceil (W - o) T
 unfoldable pub active : List ℕ → ℕ → Bool
 active b h = ltb 0 (b ! h)
 
+-- "start with w + b_h + all b_j of partitions above h"
+unfoldable pub busyStart : List ℕ → ℕ → ℕ → ℕ
+busyStart b h w = w + b ! h + sumBelow h (λ j. b ! j)
+
+-- "max(0, ceil((W − o_j)/T_j))·B_j"
+unfoldable pub refill : List ℕ → List ℕ → List ℕ → ℕ → ℕ → ℕ
+refill T B o j W = arrivals (o ! j) (T ! j) W * B ! j
+
+-- "The deadline, counted from now, is o_h for an active h and o_h + T_h for an inactive one."
+unfoldable pub deadline : List ℕ → List ℕ → List ℕ → ℕ → ℕ
+deadline T b o h = cond (active b h) (o ! h) (o ! h + T ! h)
+
 module _ (T B b o : List ℕ) where
-  -- "start with w + b_h + all b_j of partitions above h"
-  unfoldable pub busyStart : ℕ → ℕ → ℕ
-  busyStart h w = w + b ! h + sumBelow h (λ j. b ! j)
-
-  -- "max(0, ceil((W − o_j)/T_j))·B_j"
-  unfoldable pub refill : ℕ → ℕ → ℕ
-  refill j W = arrivals (o ! j) (T ! j) W * B ! j
-
-  -- "add to that start, for each j above h, [the refill], and for an inactive h the same term for h itself"
+  -- "add to that start, for each j above h, max(0, ..)·B_j, and for an inactive h (b_h = 0) the same term for h itself"
   unfoldable pub busySum : ℕ → ℕ → ℕ → ℕ
-  busySum h w W = busyStart h w + sumBelow h (λ j. refill j W) + cond (active b h) 0 (refill h W)
-
-  -- "The deadline, counted from now, is o_h for an active h and o_h + T_h for an inactive one."
-  unfoldable pub deadline : ℕ → ℕ
-  deadline h = cond (active b h) (o ! h) (o ! h + T ! h)
+  busySum h w W = busyStart b h w + sumBelow h (λ j. refill T B o j W) + cond (active b h) 0 (refill T B o h W)
 
   -- "until W stands still": the busy length is the least W that is its own sum, over all W
   unfoldable pub IsBusyLength : ℕ → ℕ → ℕ → Type 0
   IsBusyLength h w = Least (λ W. busySum h w W ≡ W)
 
-  -- The busy length if it is at most the deadline. "Repeat .. until W stands still"; "a W above it fails at once, the start value included":
-  -- each round adds a tick or more, so there are no more rounds than ticks to the deadline.
+  -- The busy length, if it is at most the deadline. "Repeat .. until W stands still"; "a W above it fails at once, the start value included".
+  -- Each round adds a tick or more, so one more round than there are ticks to the deadline is enough.
   unfoldable pub busyTest : ℕ → ℕ → Option ℕ
-  busyTest h w = settle (suc (deadline h)) (busySum h w) (ltb (deadline h)) (busyStart h w)
+  busyTest h w = settle (suc (deadline T b o h)) (busySum h w) (ltb (deadline T b o h)) (busyStart b h w)
 
   -- "h passes when the least such W is at most the deadline"
   unfoldable pub passes : ℕ → ℕ → Bool

@@ -13,19 +13,19 @@ idle = 255
 abbrev pub inversion : ℕ
 inversion = 1
 
-module _ (n : ℕ) (T B b o : List ℕ) (w : ℕ) where
-  -- "The first active one is always in.": nothing above it is active, as nothing is above idle "with no active partition".
-  -- "Another, or idle, is in when every partition above it passes with w .., inactive ones too.": so the first that fails ends the search.
-  unfoldable pub mayRun : ℕ → Bool
-  mayRun c = all c (λ h. not (active b h)) || all c (λ h. passes T B b o h w)
+-- "The first active one is always in.": no partition above it is active. (Nor is one above idle, where "the list is idle alone".)
+-- "Another, or idle, is in when every partition above it passes with w .., inactive ones too.": so the first failed test ends the whole search.
+unfoldable pub mayRun : List ℕ → List ℕ → List ℕ → List ℕ → ℕ → ℕ → Bool
+mayRun T B b o w c = all c (λ h. not (active b h)) || all c (λ h. passes T B b o h w)
 
+module _ (n : ℕ) (T B b o : List ℕ) (w : ℕ) where
   -- "Active partitions by rank"
   unfoldable pub members : List ℕ
-  members = those n (λ c. active b c && mayRun c)
+  members = those n (λ c. active b c && mayRun T B b o w c)
 
   -- idle stands below all n partitions
   unfoldable pub idleListed : Bool
-  idleListed = mayRun n
+  idleListed = mayRun T B b o w n
 
   -- "Active partitions by rank, then idle."
   unfoldable pub candidates : List ℕ

@@ -76,9 +76,9 @@ sums =
     -- "(10,4), (6,2), (60,1) with b = 4, 0, 1 and o = 6, 1, 50: list is 0 alone."
     ∷ (listOf 3 T₂ B₂ (4 ∷ 0 ∷ 1 ∷ []) (6 ∷ 1 ∷ 50 ∷ []) is 0 ∷ [])
     -- "Partition 1, inactive, would reach 11 against 7.": by way of 5 and 7
-    ∷ (number (busyStart T₂ B₂ (4 ∷ 0 ∷ 1 ∷ []) (6 ∷ 1 ∷ 50 ∷ []) 1 inversion) is 5 ∷ [])
+    ∷ (number (busyStart (4 ∷ 0 ∷ 1 ∷ []) 1 inversion) is 5 ∷ [])
     ∷ (map (busySum T₂ B₂ (4 ∷ 0 ∷ 1 ∷ []) (6 ∷ 1 ∷ 50 ∷ []) 1 inversion) (5 ∷ 7 ∷ []) is 7 ∷ 11 ∷ [])
-    ∷ (number (deadline T₂ B₂ (4 ∷ 0 ∷ 1 ∷ []) (6 ∷ 1 ∷ 50 ∷ []) 1) is 7 ∷ [])
+    ∷ (number (deadline T₂ (4 ∷ 0 ∷ 1 ∷ []) (6 ∷ 1 ∷ 50 ∷ []) 1) is 7 ∷ [])
     -- "Four of (100,1) with b = 1 each, o = 2, 4, 6, 8: all and idle listed; weights 32768, 16384, 10922, 8192, idle 0."
     ∷ (listOf 4 (replicate 4 100) (replicate 4 1) (replicate 4 1) (2 ∷ 4 ∷ 6 ∷ 8 ∷ []) is 0 ∷ 1 ∷ 2 ∷ 3 ∷ idle ∷ [])
     ∷ (weightsOf 4 (replicate 4 100) (replicate 4 1) (replicate 4 1) (2 ∷ 4 ∷ 6 ∷ 8 ∷ []) is 32768 ∷ 16384 ∷ 10922 ∷ 8192 ∷ 0 ∷ [])

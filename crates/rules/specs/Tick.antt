@@ -25,6 +25,7 @@ passTime n T B b o =
     }
 
 module _ (n : ℕ) (T B b o : List ℕ) where
+  -- "A picked partition loses one of b. Then every o falls by 1"
   unfoldable pub tick : ℕ → Pairs
   tick pick = passTime n T B (spend b pick) o
 
