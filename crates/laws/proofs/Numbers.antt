@@ -16,7 +16,7 @@ use Rattle.rules.specs.Numbers.{mostPartitions, partitionInRange, firstBadParti
 
 pub record GoodPartition (T B phase : ℕ) : Type 0 where
   pub period : 1 ≤ T
-  pub shortest : T ≤ 4096
+  pub longest : T ≤ 4096
   pub budget : 1 ≤ B
   pub affordable : B ≤ T
   pub phased : phase < T
@@ -34,7 +34,7 @@ partition-good T B phase p =
     let last = within-high 0 (T - 1) phase (and-right (within 1 4096 T && within 1 T B) _ p) in
     record {
       period = low;
-      shortest = within-high 1 4096 T (and-left _ _ fields);
+      longest = within-high 1 4096 T (and-left _ _ fields);
       budget = within-low 1 T B (and-right (within 1 4096 T) _ fields);
       affordable = within-high 1 T B (and-right (within 1 4096 T) _ fields);
       phased = omega arith;

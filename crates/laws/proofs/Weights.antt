@@ -50,14 +50,14 @@ module _ (n : ℕ) (T B phase b o : List ℕ) (w : ℕ) (t : TableInRange n T B 
   listed-weight-most c l =
       let pair = state .each c l .remaining in
       let budget = table .each c l .affordable in
-      let period = table .each c l .shortest in
+      let period = table .each c l .longest in
       weight-most b o c (omega arith)
 
   pub listed-weight-least : (c : ℕ) → c < n → active b c ≡ true → 16 ≤ weight b o c
   listed-weight-least c l on =
       let left = active-some b c on in
       let pair = state .each c l in
-      let period = table .each c l .shortest in
+      let period = table .each c l .longest in
       weight-least b o c left (pair .to-come) (le-trans (pair .in-period) period)
 
   -- what a partition adds to the sum

@@ -57,6 +57,8 @@ corners =
     ∷ (answer (busyTest (4 ∷ []) (1 ∷ []) (0 ∷ []) (3 ∷ []) 0 0) is 0 ∷ [])
     ∷ (answer (busyTest (4 ∷ []) (1 ∷ []) (1 ∷ []) (1 ∷ []) 0 0) is 1 ∷ [])
     ∷ (answer (busyTest (4 ∷ []) (1 ∷ []) (1 ∷ []) (1 ∷ []) 0 1) is [])
+    -- an inactive partition has until the end of its next period
+    ∷ (number (deadline (6 ∷ []) (0 ∷ []) (1 ∷ []) 0) is 7 ∷ [])
     -- the first h that fails the standing test
     ∷ (answer (firstFailing 2 (4 ∷ 6 ∷ []) (1 ∷ 2 ∷ []) (1 ∷ 2 ∷ []) (4 ∷ 2 ∷ [])) is 1 ∷ [])
     -- with no active partition the list is idle alone, and weighs all
