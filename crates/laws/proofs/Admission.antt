@@ -56,17 +56,17 @@ module _ (T B : List ℕ) where
   response-exactly h R = (response-some h R, some-response h R)
 
   -- the first failing partition is none exactly when 01's sentence holds
-  pub admitted-exactly : (n : ℕ) → (firstUnadmitted T B n ≡ none) ↔ Admitted T B n
+  pub admitted-exactly : (n : ℕ) → (firstUnadmitted n T B ≡ none) ↔ Admitted n T B
   unfolding firstUnadmitted Admitted
   admitted-exactly n = (from, to)
     where
-      from : firstUnadmitted T B n ≡ none → (h : ℕ) → h < n → (R : ℕ) × IsR T B h R × (R ≤ T ! h)
+      from : firstUnadmitted n T B ≡ none → (h : ℕ) → h < n → (R : ℕ) × IsR T B h R × (R ≤ T ! h)
       from p h l =
           let answer = found-some (responseWithin T B h) (not-false _ (first-none n _ p h l)) in
           let r = response-some h (answer .0) (answer .1) in
           (answer .0, r .least, r .within)
 
-      to : ((h : ℕ) → h < n → (R : ℕ) × IsR T B h R × (R ≤ T ! h)) → firstUnadmitted T B n ≡ none
+      to : ((h : ℕ) → h < n → (R : ℕ) × IsR T B h R × (R ≤ T ! h)) → firstUnadmitted n T B ≡ none
       to each = none-first n _ (λ h l. rw (some-response h (each h l .0) (record { least = each h l .1; within = each h l .2 })))
 
   -- ---- admission is the busy test with w = 0 at b = B, o = T

@@ -17,13 +17,13 @@ use Rattle.laws.proofs.Places.{first-same, all-same, those-same, map-th
 use Rattle.laws.proofs.Filled.{filled-same}
 use Rattle.rules.specs.Numbers.{mostPartitions, mostTasks, partitionInRange, firstBadPartition, taskInRange, firstBadTask, pairInRange, firstBadPair, Pairs}
 use Rattle.rules.specs.Admission.{demand, atRest, responseWithin, firstUnadmitted}
-use Rattle.rules.specs.FreshStart.{freshStart, zeros}
+use Rattle.rules.specs.FreshStart.{freshB, freshO, freshStart, zeros}
 use Rattle.rules.specs.BusyLength.{active, busyStart, refill, busySum, deadline, busyTest, passes}
 use Rattle.rules.specs.StandingTest.{firstFailing}
 use Rattle.rules.specs.Candidates.{mayRun, members, idleListed, candidates}
 use Rattle.rules.specs.Weights.{memberWeights, weights}
 use Rattle.rules.specs.Pick.{S, decision}
-use Rattle.rules.specs.Tick.{spend, passTime, tick, tickAllowed}
+use Rattle.rules.specs.Tick.{spend, nextB, nextO, passTime, tick, tickAllowed}
 use Rattle.rules.specs.Run.{Ran, run}
 use Rattle.rules.specs.TaskResponse.{Work, ownTasks, rankOf, responseOfTask}
 
@@ -42,7 +42,7 @@ bad-partition-same n T B phase T′ B′ phase′ t u v =
 
 pub fresh-same : (n : ℕ) (T B phase T′ B′ phase′ : List ℕ) → Agree n T T′ → Agree n B B′ → Agree n phase phase′
     → freshStart n T B phase ≡ freshStart n T′ B′ phase′
-unfolding freshStart
+unfolding freshStart freshB freshO
 fresh-same n T B phase T′ B′ phase′ t u v =
     ap₂ (λ (x y : List ℕ). record { b = x; o = y })
     (filled-same n _ _ zeros (λ i l. rw (u i l, v i l)))
@@ -59,7 +59,7 @@ module _ (n : ℕ) (T B T′ B′ : List ℕ) (t : Agree n T T′) (u : Agree n 
       ap (λ x. first (suc x) (atRest T B h)) (t h l)
       ∙ first-same (suc (T′ ! h)) (atRest T B h) (atRest T′ B′ h) (λ W k. ap (λ x. leb 1 W && eqb W x) (demand-same h l W))
 
-  pub unadmitted-same : firstUnadmitted T B n ≡ firstUnadmitted T′ B′ n
+  pub unadmitted-same : firstUnadmitted n T B ≡ firstUnadmitted n T′ B′
   unfolding firstUnadmitted
   unadmitted-same = first-same n _ _ (λ h l. ap (λ a. not (found a)) (response-same h l))
 
@@ -133,7 +133,7 @@ module _ (n : ℕ) (T B T′ B′ : List ℕ) (t : Agree n T T′) (u : Agree n 
     allowed-same pick = rw (candidates-same 1)
 
     pub tick-same : (pick : ℕ) → tick n T B b o pick ≡ tick n T′ B′ b o pick
-    unfolding tick passTime
+    unfolding tick passTime nextB nextO
     tick-same pick =
         ap₂ (λ (x y : List ℕ). record { b = x; o = y })
         (filled-same n _ _ (spend b pick) (λ i l. rw (u i l)))

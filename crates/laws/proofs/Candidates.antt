@@ -16,9 +16,9 @@ use Rattle.rules.specs.BusyLength.{active, passes}
 use Rattle.rules.specs.Candidates.{mayRun, members, idleListed, candidates, idle}
 
 -- With w = 1 the tests alone decide: nothing waits above the first active partition, so all above it pass.
-pub tests-decide : (n : ℕ) (T B b o : List ℕ) (c : ℕ) → ((j : ℕ) → j < c → 1 ≤ o ! j) → mayRun T B b o 1 c ≡ all c (λ h. passes T B b o h 1)
+pub tests-decide : (T B b o : List ℕ) (c : ℕ) → ((j : ℕ) → j < c → 1 ≤ o ! j) → mayRun T B b o 1 c ≡ all c (λ h. passes T B b o h 1)
 unfolding mayRun
-tests-decide n T B b o c later = go (all c (λ h. not (active b h))) refl
+tests-decide T B b o c later = go (all c (λ h. not (active b h))) refl
   where
     empty : all c (λ h. not (active b h)) ≡ true → (j : ℕ) → j < c → b ! j ≡ 0
     empty off j l = inactive-empty b j (not-true (active b j) (all-true c _ off j l))

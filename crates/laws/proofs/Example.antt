@@ -6,7 +6,7 @@ use mathlib.Core.List.{List, [], _∷_}
 use Rattle.basis.specs.Words.{ceil, sumBelow, has, all, those, first, filled, settle}
 use Rattle.rules.specs.Numbers.{Pairs, partitionInRange, firstBadPartition, TableInRange, pairInRange, firstBadPair, StateInRange}
 use Rattle.rules.specs.Admission.{demand, atRest, responseWithin, firstUnadmitted, Admitted}
-use Rattle.rules.specs.FreshStart.{freshStart}
+use Rattle.rules.specs.FreshStart.{freshB, freshO, freshStart}
 use Rattle.rules.specs.BusyLength.{arrivals, active, busyStart, refill, busySum, deadline, busyTest, passes}
 use Rattle.rules.specs.StandingTest.{firstFailing, Stands}
 use Rattle.rules.specs.Candidates.{mayRun, members, idleListed, candidates, inversion}
@@ -28,7 +28,7 @@ start = freshStart 2 T B phase
 
 pub record Met : Type 0 where
   pub in-range : TableInRange 2 T B phase
-  pub admitted : Admitted T B 2
+  pub admitted : Admitted 2 T B
   pub state : StateInRange 2 T B (start .b) (start .o)
   pub stands : Stands 2 T B (start .b) (start .o)
   -- partition 0 is active, and yet 1 is a candidate
@@ -36,7 +36,7 @@ pub record Met : Type 0 where
   pub later : has (candidates 2 T B (start .b) (start .o) inversion) 1 ≡ true
 
 pub met : Met
-unfolding ceil sumBelow has all those first filled settle partitionInRange firstBadPartition pairInRange firstBadPair demand atRest responseWithin firstUnadmitted freshStart arrivals active busyStart refill busySum deadline busyTest passes firstFailing mayRun members idleListed candidates
+unfolding ceil sumBelow has all those first filled settle partitionInRange firstBadPartition pairInRange firstBadPair demand atRest responseWithin firstUnadmitted freshB freshO freshStart arrivals active busyStart refill busySum deadline busyTest passes firstFailing mayRun members idleListed candidates
 met =
     record {
       in-range = refl;

@@ -2,11 +2,11 @@
 use Prim.Native.Nat.{ℕ, zero, suc, _≤_, _<_}
 use mathlib.Core.Path.{_≡_, refl, _∙_, ap₂}
 use mathlib.Core.List.{List}
-use mathlib.Core.Logic.{⊎-elim}
-use native.Mathlib.Nat.{le-step, lt-suc-self, eq-or-lt-of-le, le-of-suc-le-suc}
+use native.Mathlib.Nat.{le-step, lt-suc-self}
 use native.Mathlib.Omega.{arith}
 use lib.ListN.{length, set, length-set}
 use lib.Seq.{getD-set-same, getD-set-other}
+use Rattle.laws.proofs.Tests.{below-cases}
 use Rattle.basis.specs.Words.{_!_, filled}
 
 pub filled-length : (n : ℕ) (f : ℕ → ℕ) (xs : List ℕ) → length (filled n f xs) ≡ length xs
@@ -24,8 +24,7 @@ pub filled-at : (n : ℕ) (f : ℕ → ℕ) (xs : List ℕ) (i : ℕ) → n ≤ 
 unfolding filled
 filled-at zero f xs i fits h = omega arith
 filled-at (suc n) f xs i fits h =
-    ⊎-elim last (λ l. getD-set-other (filled n f xs) n i (f n) 0 (omega arith) ∙ filled-at n f xs i (omega arith) l)
-    (eq-or-lt-of-le (le-of-suc-le-suc h))
+    below-cases n i h last (λ l. getD-set-other (filled n f xs) n i (f n) 0 (omega arith) ∙ filled-at n f xs i (omega arith) l)
   where
     last : i ≡ n → set (filled n f xs) n (f n) ! i ≡ f i
     last e = rw e (getD-set-same (filled n f xs) n (f n) 0 (rw (filled-length n f xs) fits))

@@ -14,8 +14,8 @@ use Rattle.basis.specs.Words.{_!_, filled}
 use Rattle.laws.proofs.Tests.{below-or-not}
 use Rattle.laws.proofs.Filled.{filled-length, filled-at, filled-beyond}
 use Rattle.rules.specs.Numbers.{mostPartitions, TableInRange, StateInRange}
-use Rattle.rules.specs.FreshStart.{freshStart, zeros}
-use Rattle.rules.specs.Tick.{spend, replenishes, passTime, tick}
+use Rattle.rules.specs.FreshStart.{freshB, freshO, freshStart, zeros}
+use Rattle.rules.specs.Tick.{spend, replenishes, nextB, nextO, passTime, tick}
 use Rattle.rules.specs.Release.{release}
 use Rattle.rules.specs.Candidates.{idle}
 use Rattle.laws.proofs.Numbers.{GoodPartition, GoodTable, table-good, GoodPair, GoodState, state-good, good-state}
@@ -46,22 +46,25 @@ module _ (n : ℕ) (T B phase : List ℕ) (t : TableInRange n T B phase) where
   unstarted : (f : ℕ → ℕ) (i : ℕ) → n ≤ i → i < mostPartitions → filled n f zeros ! i ≡ 0
   unstarted f i l k = filled-beyond n f zeros i l ∙ zeros-at i k
 
+  fresh-pair : (i : ℕ) → GoodPartition (T ! i) (B ! i) (phase ! i) → GoodPair (T ! i) (B ! i) (freshB B phase i) (freshO T phase i)
+  unfolding freshB freshO
+  fresh-pair i g = go (eqb (phase ! i) 0) refl
+    where
+      go : (a : Bool) → eqb (phase ! i) 0 ≡ a → GoodPair (T ! i) (B ! i) (cond a (B ! i) 0) (cond a (T ! i) (phase ! i))
+      go true e = record { remaining = le-refl (B ! i); to-come = g .period; in-period = le-refl (T ! i) }
+      go false e =
+          let later : ¬ (phase ! i ≡ 0) = eqb-false (phase ! i) 0 e in
+          let less = g .phased in
+          record { remaining = omega arith; to-come = omega arith; in-period = omega arith }
+
   pub fresh-in-range : StateInRange n T B (freshStart n T B phase .b) (freshStart n T B phase .o)
   unfolding freshStart
   fresh-in-range =
       good-state n T B _ _ (filled-length n _ zeros ∙ zeros-long) (filled-length n _ zeros ∙ zeros-long)
       (record {
-        each = λ i l. rw (started (λ j. cond (eqb (phase ! j) 0) (B ! j) 0) i l, started (λ j. cond (eqb (phase ! j) 0) (T ! j) (phase ! j)) i l) (good i (table .each i l) (eqb (phase ! i) 0) refl);
+        each = λ i l. rw (started (freshB B phase) i l, started (freshO T phase) i l) (fresh-pair i (table .each i l));
         beyond = λ i l k. (unstarted _ i l k, unstarted _ i l k);
       })
-    where
-      good : (i : ℕ) → GoodPartition (T ! i) (B ! i) (phase ! i) → (a : Bool) → eqb (phase ! i) 0 ≡ a
-          → GoodPair (T ! i) (B ! i) (cond a (B ! i) 0) (cond a (T ! i) (phase ! i))
-      good i g true e = record { remaining = le-refl (B ! i); to-come = g .period; in-period = le-refl (T ! i) }
-      good i g false e =
-          let later : phase ! i ≡ 0 → ⊥ = eqb-false (phase ! i) 0 e in
-          let less = g .phased in
-          record { remaining = omega arith; to-come = omega arith; in-period = omega arith }
 
   module _ (b o : List ℕ) (s : StateInRange n T B b o) where
     state : GoodState n T B b o
@@ -104,26 +107,30 @@ module _ (n : ℕ) (T B phase : List ℕ) (t : TableInRange n T B phase) where
         go true = s
         go false = lowered (set b pick (b ! pick - 1)) (length-set b pick _ ∙ s .budgets) (set-less pick (b ! pick - 1) (omega arith))
 
+    next-pair : (i : ℕ) → 1 ≤ T ! i → GoodPair (T ! i) (B ! i) (b ! i) (o ! i) → GoodPair (T ! i) (B ! i) (nextB B b o i) (nextO T o i)
+    unfolding nextB nextO
+    next-pair i period h = go (replenishes o i) refl
+      where
+        go : (a : Bool) → replenishes o i ≡ a → GoodPair (T ! i) (B ! i) (cond a (B ! i) (b ! i)) (cond a (T ! i) (o ! i - 1))
+        go true e = record { remaining = le-refl (B ! i); to-come = period; in-period = le-refl (T ! i) }
+        go false e =
+            let later = not-replenished o i e in
+            let whole = h .in-period in
+            record { remaining = h .remaining; to-come = omega arith; in-period = omega arith }
+
+    -- what passing time leaves at each place
+    passed : (f : ℕ → ℕ) (xs : List ℕ) → length xs ≡ mostPartitions → (i : ℕ) → i < n → filled n f xs ! i ≡ f i
+    passed f xs long i l = filled-at n f xs i (rw long (table .not-many)) l
+
     -- and the second
     pub time-in-range : StateInRange n T B (passTime n T B b o .b) (passTime n T B b o .o)
     unfolding passTime
     time-in-range =
         good-state n T B _ _ (filled-length n _ b ∙ s .budgets) (filled-length n _ o ∙ s .offsets)
         (record {
-          each = λ i l. rw (filled-at n (λ j. cond (replenishes o j) (B ! j) (b ! j)) b i (fits b (s .budgets)) l, filled-at n (λ j. cond (replenishes o j) (T ! j) (o ! j - 1)) o i (fits o (s .offsets)) l) (good i (table .each i l) (state .each i l) (replenishes o i) refl);
+          each = λ i l. rw (passed (nextB B b o) b (s .budgets) i l, passed (nextO T o) o (s .offsets) i l) (next-pair i (table .each i l .period) (state .each i l));
           beyond = λ i l k. (filled-beyond n _ b i l ∙ state .beyond i l k .0, filled-beyond n _ o i l ∙ state .beyond i l k .1);
         })
-      where
-        fits : (xs : List ℕ) → length xs ≡ mostPartitions → n ≤ length xs
-        fits xs e = rw e (table .not-many)
-
-        good : (i : ℕ) → GoodPartition (T ! i) (B ! i) (phase ! i) → GoodPair (T ! i) (B ! i) (b ! i) (o ! i) → (a : Bool) → replenishes o i ≡ a
-            → GoodPair (T ! i) (B ! i) (cond a (B ! i) (b ! i)) (cond a (T ! i) (o ! i - 1))
-        good i g h true e = record { remaining = le-refl (B ! i); to-come = g .period; in-period = le-refl (T ! i) }
-        good i g h false e =
-            let later = not-replenished o i e in
-            let period = h .in-period in
-            record { remaining = h .remaining; to-come = omega arith; in-period = omega arith }
 
   -- a tick keeps a state in range, whatever the pick
   pub tick-in-range : (b o : List ℕ) (pick : ℕ) → StateInRange n T B b o → StateInRange n T B (tick n T B b o pick .b) (tick n T B b o pick .o)

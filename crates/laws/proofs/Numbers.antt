@@ -10,7 +10,7 @@ use borrow.Author.Tests.{ltb-false, lt-ltb, le-ltb, eqb-true, eqb-false, eq-eqb,
 use lib.Dec.{eqb, ltb}
 use lib.ListN.{length}
 use Rattle.basis.specs.Words.{_!_, within, first}
-use Rattle.laws.proofs.Tests.{both, and-left, and-right, within-low, within-high, is-within, below-or-not}
+use Rattle.laws.proofs.Tests.{both, and-left, and-right, within-low, within-high, is-within, below-or-not, some-is-none}
 use Rattle.laws.proofs.Places.{first-none, none-first}
 use Rattle.rules.specs.Numbers.{mostPartitions, partitionInRange, firstBadPartition, TableInRange, pairInRange, firstBadPair, StateInRange}
 
@@ -47,8 +47,8 @@ table-good n T B phase p = go (eqb n 0) refl (ltb mostPartitions n) refl p
     go : (a : Bool) → eqb n 0 ≡ a → (t : Bool) → ltb mostPartitions n ≡ t
         → cond a (some 0) (cond t (some mostPartitions) (first n (λ i. not (partitionInRange (T ! i) (B ! i) (phase ! i))))) ≡ none
         → GoodTable n T B phase
-    go true e t d q = let z : _≡_ {A = ℕ} 0 1 = cc in absurd (omega arith)
-    go false e true d q = let z : _≡_ {A = ℕ} 0 1 = cc in absurd (omega arith)
+    go true e t d q = some-is-none q
+    go false e true d q = some-is-none q
     go false e false d q =
         let not-zero : n ≡ 0 → ⊥ = eqb-false n 0 e in
         record {

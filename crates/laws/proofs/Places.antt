@@ -5,18 +5,14 @@ use mathlib.Core.Bool.{Bool, true, false, cond, _&&_, _||_}
 use mathlib.Core.List.{List, [], _∷_, _++_, append-nil, map, map-append}
 use mathlib.Core.Option.{Option, some, none}
 use mathlib.Core.Logic.{⊎-elim}
-use native.Mathlib.Nat.{le-step, lt-suc-self, eq-or-lt-of-le, le-of-suc-le-suc}
+use native.Mathlib.Nat.{le-step, lt-suc-self, le-of-suc-le-suc}
 use native.Mathlib.Omega.{arith}
 use borrow.Author.Tests.{eqb-true, eq-eqb}
 use lib.Dec.{eqb}
 use lib.ListN.{length, length-append, List·getD-append}
 use lib.Seq.{getD-append-seam}
 use Rattle.basis.specs.Words.{_!_, has, all, those, first, orElse, Increasing}
-use Rattle.laws.proofs.Tests.{both, and-left, and-right, or-left, or-right, or-cases, never}
-
--- a number below n + 1 is n or below n
-below-cases : {A : Type 0} (n i : ℕ) → i < suc n → (i ≡ n → A) → (i < n → A) → A
-below-cases n i h last before = ⊎-elim last before (eq-or-lt-of-le (le-of-suc-le-suc h))
+use Rattle.laws.proofs.Tests.{both, and-left, and-right, or-left, or-right, or-cases, never, below-cases, some-is-none, none-is-some}
 
 -- ---- all
 pub all-true : (n : ℕ) (test : ℕ → Bool) → all n test ≡ true → (i : ℕ) → i < n → test i ≡ true
@@ -49,8 +45,8 @@ first-none (suc n) test p i h = go (first n test) refl (test n) refl p (first-no
   where
     go : (a : Option ℕ) → first n test ≡ a → (t : Bool) → test n ≡ t → orElse a (cond t (some n) none) ≡ none
         → (first n test ≡ none → (j : ℕ) → j < n → test j ≡ false) → test i ≡ false
-    go (some k) e t d q before = let z : _≡_ {A = ℕ} 0 1 = cc in absurd (omega arith)
-    go none e true d q before = let z : _≡_ {A = ℕ} 0 1 = cc in absurd (omega arith)
+    go (some k) e t d q before = some-is-none q
+    go none e true d q before = some-is-none q
     go none e false d q before = below-cases n i h (λ same. ap test same ∙ d) (before e i)
 
 pub none-first : (n : ℕ) (test : ℕ → Bool) → ((i : ℕ) → i < n → test i ≡ false) → first n test ≡ none
@@ -60,7 +56,7 @@ none-first (suc n) test h = rw (none-first n test (λ i l. h i (le-step l)), h n
 
 pub first-some : (n : ℕ) (test : ℕ → Bool) (i : ℕ) → first n test ≡ some i → First n test i
 unfolding first
-first-some zero test i p = let z : _≡_ {A = ℕ} 0 1 = cc in absurd (omega arith)
+first-some zero test i p = none-is-some p
 first-some (suc n) test i p = go (first n test) refl (test n) refl p (first-some n test i)
   where
     go : (a : Option ℕ) → first n test ≡ a → (t : Bool) → test n ≡ t → orElse a (cond t (some n) none) ≡ some i
@@ -71,7 +67,7 @@ first-some (suc n) test i p = go (first n test) refl (test n) refl p (first-some
     go none e true d q before =
         let same : n ≡ i = cc in
         record { below = omega arith; passed = ap test (sym same) ∙ d; earlier = λ j l. first-none n test e j (omega arith) }
-    go none e false d q before = let z : _≡_ {A = ℕ} 0 1 = cc in absurd (omega arith)
+    go none e false d q before = none-is-some q
 
 pub some-first : (n : ℕ) (test : ℕ → Bool) (i : ℕ) → First n test i → first n test ≡ some i
 unfolding first

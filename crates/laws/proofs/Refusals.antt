@@ -5,11 +5,10 @@ use mathlib.Core.Bool.{true, cond}
 use mathlib.Core.List.{List, [], _∷_, _++_}
 use mathlib.Core.Logic.{⊎-elim}
 use mathlib.Core.Option.{Option, some, none, Option·some-injective}
-use native.Mathlib.Omega.{arith}
 use lib.Dec.{eqb}
 use lib.ListN.{length}
 use Rattle.basis.specs.Words.{has, those}
-use Rattle.laws.proofs.Tests.{or-cases, never}
+use Rattle.laws.proofs.Tests.{or-cases, never, some-is-none, none-is-some}
 use borrow.Author.Tests.{eqb-true}
 use Rattle.rules.specs.declared.Refusal.{Refusal}
 use Rattle.rules.specs.declared.Refusal.the-variants.{BadPartition, NotAdmitted, BadPair, NoWord, NotListed, NotActive, ShortBuffer, BadRecord, BadTask}
@@ -53,7 +52,7 @@ pub record FirstOf (numbers : List ℕ) (gs : List Ground) (r : Refused) : Type 
 
 pub first-applying : (numbers : List ℕ) (gs : List Ground) (r : Refused) → firstApplying numbers gs ≡ some r → FirstOf numbers gs r
 unfolding has
-first-applying [] gs r p = let z : _≡_ {A = ℕ} 0 1 = cc in absurd (omega arith)
+first-applying [] gs r p = none-is-some p
 first-applying (k ∷ ks) gs r p = go (appliesTo gs k) refl p (first-applying ks gs r)
   where
     go : (a : Option ℕ) → appliesTo gs k ≡ a → unlessBefore k a (firstApplying ks gs) ≡ some r
@@ -84,7 +83,7 @@ none-applying (j ∷ js) gs p k h = go (appliesTo gs j) refl p (none-applying js
   where
     go : (a : Option ℕ) → appliesTo gs j ≡ a → unlessBefore j a (firstApplying js gs) ≡ none
         → (firstApplying js gs ≡ none → (i : ℕ) → has js i ≡ true → appliesTo gs i ≡ none) → appliesTo gs k ≡ none
-    go (some i) e q next = let z : _≡_ {A = ℕ} 0 1 = cc in absurd (omega arith)
+    go (some i) e q next = some-is-none q
     go none e q next = ⊎-elim (λ s. ap (appliesTo gs) (eqb-true k j s) ∙ e) (next q k) (or-cases (eqb k j) _ h)
 
 -- the order has each of the nine once

@@ -8,7 +8,7 @@ use native.Mathlib.Omega.{arith}
 use borrow.Author.Tests.{eqb-true, eqb-false}
 use lib.Dec.{eqb}
 use Rattle.basis.specs.Words.{settle}
-use Rattle.laws.proofs.Tests.{never}
+use Rattle.laws.proofs.Tests.{never, none-is-some}
 
 -- a function that never falls
 abbrev pub Rising : (ℕ → ℕ) → Type 0
@@ -27,13 +27,13 @@ pub record Settled (f : ℕ → ℕ) (past : ℕ → Bool) (x y : ℕ) : Type 0 
 module _ (f : ℕ → ℕ) (past : ℕ → Bool) (rising : Rising f) where
   pub settle-some : (rounds x y : ℕ) → settle rounds f past x ≡ some y → Settled f past x y
   unfolding settle
-  settle-some zero x y p = let z : _≡_ {A = ℕ} 0 1 = cc in absurd (omega arith)
+  settle-some zero x y p = none-is-some p
   settle-some (suc rounds) x y p = go (past x) refl (eqb (f x) x) refl p (settle-some rounds (f x) y)
     where
       go : (a : Bool) → past x ≡ a → (t : Bool) → eqb (f x) x ≡ t
           → cond a none (cond t (some x) (settle rounds f past (f x))) ≡ some y
           → (settle rounds f past (f x) ≡ some y → Settled f past (f x) y) → Settled f past x y
-      go true e t d q later = let z : _≡_ {A = ℕ} 0 1 = cc in absurd (omega arith)
+      go true e t d q later = none-is-some q
       go false e true d q later =
           let same : x ≡ y = cc in
           let fixed : f x ≡ x = eqb-true (f x) x d in

@@ -1,9 +1,10 @@
 -- What a test says, and the test that a fact passes. (Those of one comparison are the library's, `borrow.Author.Tests`.)
-use Prim.Native.Nat.{ℕ, _≤_, _<_}
+use Prim.Native.Nat.{ℕ, suc, _≤_, _<_}
 use mathlib.Core.Path.{_≡_, refl, sym, _∙_}
 use mathlib.Core.Bool.{Bool, true, false, _&&_, _||_, true≢false}
 use mathlib.Core.Logic.{_⊎_, inl, inr, ⊎-elim}
-use mathlib.Core.Option.{Option, some, none}
+use mathlib.Core.Option.{Option, some, none, Option·some-ne-none, Option·none-ne-some}
+use native.Mathlib.Nat.{eq-or-lt-of-le, le-of-suc-le-suc}
 use borrow.Author.Tests.{leb-true, le-leb, ltb-true, ltb-false}
 use lib.Dec.{leb, ltb}
 use Rattle.basis.specs.Words.{within, found}
@@ -61,3 +62,14 @@ found-none none p = refl
 
 pub below-or-not : (i n : ℕ) → (i < n) ⊎ (n ≤ i)
 below-or-not i n = ⊎-elim (λ p. inl (ltb-true i n p)) (λ p. inr (ltb-false i n p)) (true-or-false (ltb i n))
+
+-- a number below n + 1 is n or below n
+pub below-cases : {A : Type 0} (n i : ℕ) → i < suc n → (i ≡ n → A) → (i < n → A) → A
+below-cases n i h last before = ⊎-elim last before (eq-or-lt-of-le (le-of-suc-le-suc h))
+
+-- an answer isn't none
+pub some-is-none : {A X : Type 0} {x : X} → some x ≡ none → A
+some-is-none {x = x} e = absurd (Option·some-ne-none x e)
+
+pub none-is-some : {A X : Type 0} {x : X} → none ≡ some x → A
+none-is-some {x = x} e = absurd (Option·none-ne-some x e)

@@ -6,10 +6,10 @@ use mathlib.Core.Logic.{⊎-elim}
 use mathlib.Core.Bool.{Bool, true, false, cond}
 use borrow.Author.Tests.{eqb-true}
 use lib.Dec.{eqb}
-use native.Mathlib.Nat.{le-refl, add-le-add, le-step, lt-suc-self, eq-or-lt-of-le, le-of-suc-le-suc, zero-add, add-zero, add-assoc}
+use native.Mathlib.Nat.{le-refl, add-le-add, le-step, lt-suc-self, zero-add, add-zero, add-assoc}
 use native.Mathlib.Omega.{arith}
 use Rattle.basis.specs.Words.{sumBelow, total, has, those}
-use Rattle.laws.proofs.Tests.{or-cases, never}
+use Rattle.laws.proofs.Tests.{or-cases, never, below-cases}
 
 pub sum-mono : (n : ℕ) (f g : ℕ → ℕ) → ((j : ℕ) → j < n → f j ≤ g j) → sumBelow n f ≤ sumBelow n g
 unfolding sumBelow
@@ -38,7 +38,7 @@ sum-none (suc n) f h =
 pub sum-part : (n : ℕ) (f : ℕ → ℕ) (j : ℕ) → j < n → f j ≤ sumBelow n f
 unfolding sumBelow
 sum-part zero f j h = omega arith
-sum-part (suc n) f j h = ⊎-elim (λ e. same (ap f e)) (λ l. let before = sum-part n f j l in omega arith) (eq-or-lt-of-le (le-of-suc-le-suc h))
+sum-part (suc n) f j h = below-cases n j h (λ e. same (ap f e)) (λ l. let before = sum-part n f j l in omega arith)
   where
     same : f j ≡ f n → f j ≤ sumBelow n f + f n
     same e = omega arith

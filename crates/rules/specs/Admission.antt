@@ -16,10 +16,6 @@ module _ (T B : List ℕ) where
   unfoldable pub IsR : ℕ → ℕ → Type 0
   IsR h = Least (λ W. (1 ≤ W) × (W ≡ demand h W))
 
-  -- "The table is admitted when R exists and R ≤ T_h for every h."
-  unfoldable pub Admitted : ℕ → Type 0
-  Admitted n = (h : ℕ) → h < n → (R : ℕ) × IsR h R × (R ≤ T ! h)
-
   -- "W ≥ 1 with W = B_h + the sum ..", as a test
   unfoldable pub atRest : ℕ → ℕ → Bool
   atRest h W = leb 1 W && eqb W (demand h W)
@@ -28,6 +24,11 @@ module _ (T B : List ℕ) where
   unfoldable pub responseWithin : ℕ → Option ℕ
   responseWithin h = first (suc (T ! h)) (atRest h)
 
-  -- "first failing partition", of n
-  unfoldable pub firstUnadmitted : ℕ → Option ℕ
-  firstUnadmitted n = first n (λ h. not (found (responseWithin h)))
+module _ (n : ℕ) (T B : List ℕ) where
+  -- "The table is admitted when R exists and R ≤ T_h for every h."
+  unfoldable pub Admitted : Type 0
+  Admitted = (h : ℕ) → h < n → (R : ℕ) × IsR T B h R × (R ≤ T ! h)
+
+  -- "first failing partition"
+  unfoldable pub firstUnadmitted : Option ℕ
+  firstUnadmitted = first n (λ h. not (found (responseWithin T B h)))

@@ -9,13 +9,13 @@ use Rattle.rules.specs.declared.Refusal.{Refusal}
 use Rattle.rules.specs.declared.Refusal.the-variants.{BadPartition, NotAdmitted, BadPair, NoWord, NotListed, NotActive, ShortBuffer, BadRecord, BadTask}
 use Rattle.rules.specs.Numbers.{partitionInRange, firstBadPartition, taskInRange, firstBadTask, pairInRange, firstBadPair}
 use Rattle.rules.specs.Admission.{demand, atRest, responseWithin, firstUnadmitted}
-use Rattle.rules.specs.FreshStart.{freshStart}
+use Rattle.rules.specs.FreshStart.{freshB, freshO, freshStart}
 use Rattle.rules.specs.BusyLength.{arrivals, active, busyStart, refill, busySum, deadline, busyTest, passes}
 use Rattle.rules.specs.StandingTest.{firstFailing}
 use Rattle.rules.specs.Candidates.{mayRun, members, idleListed, candidates, idle, inversion}
 use Rattle.rules.specs.Weights.{weight, idleWeight, memberWeights, weights}
 use Rattle.rules.specs.Pick.{position, firstExceeding, S, decision}
-use Rattle.rules.specs.Tick.{spend, replenishes, passTime, tick, tickAllowed}
+use Rattle.rules.specs.Tick.{spend, replenishes, nextB, nextO, passTime, tick, tickAllowed}
 use Rattle.rules.specs.Release.{release, releaseAllowed}
 use Rattle.rules.specs.Run.{run}
 use Rattle.rules.specs.TaskResponse.{load, nextResponse, settledResponse, taskResponse, ownTasks, rankOf, responseOfTask}
@@ -49,7 +49,7 @@ corners =
     ∷ (answer (firstBadPair 1 (4 ∷ []) (2 ∷ []) (2 ∷ []) (4 ∷ [])) is [])
     -- (2,1), (3,2): the R of 1 is 4, one tick above its period
     ∷ (answer (responseWithin (2 ∷ 3 ∷ []) (1 ∷ 2 ∷ []) 1) is [])
-    ∷ (answer (firstUnadmitted (2 ∷ 3 ∷ []) (1 ∷ 2 ∷ []) 2) is 1 ∷ [])
+    ∷ (answer (firstUnadmitted 2 (2 ∷ 3 ∷ []) (1 ∷ 2 ∷ [])) is 1 ∷ [])
     -- a phase is the first o, with no budget before it
     ∷ (take 2 (freshStart 2 (4 ∷ 6 ∷ []) (1 ∷ 2 ∷ []) (0 ∷ 3 ∷ []) .b) is 1 ∷ 0 ∷ [])
     ∷ (take 2 (freshStart 2 (4 ∷ 6 ∷ []) (1 ∷ 2 ∷ []) (0 ∷ 3 ∷ []) .o) is 4 ∷ 3 ∷ [])
@@ -103,5 +103,5 @@ corners =
     ∷ []
 
 pub corners-hold : Hold corners
-unfolding ceil sumBelow total has all those first filled settle partitionInRange firstBadPartition taskInRange firstBadTask pairInRange firstBadPair demand atRest responseWithin firstUnadmitted freshStart arrivals active busyStart refill busySum deadline busyTest passes firstFailing mayRun members idleListed candidates weight idleWeight memberWeights weights position firstExceeding S decision spend replenishes passTime tick tickAllowed release releaseAllowed run load nextResponse settledResponse taskResponse ownTasks rankOf responseOfTask
+unfolding ceil sumBelow total has all those first filled settle partitionInRange firstBadPartition taskInRange firstBadTask pairInRange firstBadPair demand atRest responseWithin firstUnadmitted freshB freshO freshStart arrivals active busyStart refill busySum deadline busyTest passes firstFailing mayRun members idleListed candidates weight idleWeight memberWeights weights position firstExceeding S decision spend replenishes nextB nextO passTime tick tickAllowed release releaseAllowed run load nextResponse settledResponse taskResponse ownTasks rankOf responseOfTask
 corners-hold = refl

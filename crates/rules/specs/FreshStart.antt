@@ -11,10 +11,14 @@ use Rattle.rules.specs.Numbers.{Pairs, mostPartitions}
 abbrev pub zeros : List ℕ
 zeros = replicate mostPartitions 0
 
--- "Phase 0: b = B, o = T. Otherwise b = 0, o = phase."; "Pairs beyond the table are 0, 0."
+-- "Phase 0: b = B, .. Otherwise b = 0"
+unfoldable pub freshB : List ℕ → List ℕ → ℕ → ℕ
+freshB B phase i = cond (eqb (phase ! i) 0) (B ! i) 0
+
+-- "Phase 0: .. o = T. Otherwise .. o = phase."
+unfoldable pub freshO : List ℕ → List ℕ → ℕ → ℕ
+freshO T phase i = cond (eqb (phase ! i) 0) (T ! i) (phase ! i)
+
+-- the fresh start of n partitions; "Pairs beyond the table are 0, 0."
 unfoldable pub freshStart : ℕ → List ℕ → List ℕ → List ℕ → Pairs
-freshStart n T B phase =
-    record {
-      b = filled n (λ i. cond (eqb (phase ! i) 0) (B ! i) 0) zeros;
-      o = filled n (λ i. cond (eqb (phase ! i) 0) (T ! i) (phase ! i)) zeros;
-    }
+freshStart n T B phase = record { b = filled n (freshB B phase) zeros; o = filled n (freshO T phase) zeros }

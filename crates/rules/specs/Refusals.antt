@@ -52,7 +52,7 @@ badTableOrIndex n T B phase h = ground 1 (orElse (firstBadPartition n T B phase)
 
 -- "2 | table not admitted (fresh start, printers) | first failing partition"
 abbrev pub notAdmitted : ℕ → List ℕ → List ℕ → Ground
-notAdmitted n T B = ground 2 (firstUnadmitted T B n)
+notAdmitted n T B = ground 2 (firstUnadmitted n T B)
 
 -- "3 | state out of range | first bad pair"
 abbrev pub badState : ℕ → List ℕ → List ℕ → List ℕ → List ℕ → Ground

@@ -8,7 +8,7 @@ use Rattle.basis.specs.Words.{ceil, sumBelow, total, all, those, first, filled,
 use Rattle.basis.specs.Rows.{Row, _is_, Hold, number, answer}
 use Rattle.rules.specs.Numbers.{Pairs}
 use Rattle.rules.specs.Admission.{demand, atRest, responseWithin, firstUnadmitted}
-use Rattle.rules.specs.FreshStart.{freshStart}
+use Rattle.rules.specs.FreshStart.{freshB, freshO, freshStart}
 use Rattle.rules.specs.BusyLength.{arrivals, active, busyStart, refill, busySum, deadline, busyTest, passes}
 use Rattle.rules.specs.Candidates.{mayRun, members, idleListed, candidates, idle, inversion}
 use Rattle.rules.specs.Weights.{weight, idleWeight, memberWeights, weights}
@@ -92,5 +92,5 @@ sums =
     ∷ []
 
 pub sums-hold : Hold sums
-unfolding ceil sumBelow total all those first filled settle demand atRest responseWithin firstUnadmitted freshStart arrivals active busyStart refill busySum deadline busyTest passes mayRun members idleListed candidates weight idleWeight memberWeights weights position firstExceeding S decision load nextResponse settledResponse taskResponse
+unfolding ceil sumBelow total all those first filled settle demand atRest responseWithin firstUnadmitted freshB freshO freshStart arrivals active busyStart refill busySum deadline busyTest passes mayRun members idleListed candidates weight idleWeight memberWeights weights position firstExceeding S decision load nextResponse settledResponse taskResponse
 sums-hold = refl

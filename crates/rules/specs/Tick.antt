@@ -16,13 +16,17 @@ spend b pick = cond (eqb pick idle) b (set b pick (b ! pick - 1))
 unfoldable pub replenishes : List ℕ → ℕ → Bool
 replenishes o i = eqb (o ! i - 1) 0
 
--- "Then every o falls by 1; where it reaches 0, b becomes B and o becomes T. What was left is lost."
+-- "where it reaches 0, b becomes B"; "What was left is lost."
+unfoldable pub nextB : List ℕ → List ℕ → List ℕ → ℕ → ℕ
+nextB B b o i = cond (replenishes o i) (B ! i) (b ! i)
+
+-- "every o falls by 1; where it reaches 0, .. o becomes T"
+unfoldable pub nextO : List ℕ → List ℕ → ℕ → ℕ
+nextO T o i = cond (replenishes o i) (T ! i) (o ! i - 1)
+
+-- time passes, for each of n partitions
 unfoldable pub passTime : ℕ → List ℕ → List ℕ → List ℕ → List ℕ → Pairs
-passTime n T B b o =
-    record {
-      b = filled n (λ i. cond (replenishes o i) (B ! i) (b ! i)) b;
-      o = filled n (λ i. cond (replenishes o i) (T ! i) (o ! i - 1)) o;
-    }
+passTime n T B b o = record { b = filled n (nextB B b o) b; o = filled n (nextO T o) o }
 
 module _ (n : ℕ) (T B b o : List ℕ) where
   -- "A picked partition loses one of b. Then every o falls by 1"
