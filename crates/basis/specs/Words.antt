@@ -1,4 +1,4 @@
--- The words that the rules are written in. Each computes: specs/Shown.antt has every one at work.
+-- The words that the rules are written in. Those that compute are all at work in specs/Shown.antt.
 -- Tests are the library's `leb` (≤), `ltb` (<) and `eqb` (=), joined by `&&`, `||` and `not`; `cond test x y` is x where the test passes, else y.
 use Prim.Native.Nat.{ℕ, zero, suc, _+_, _-_, _/_, _≤_, _<_}
 use mathlib.Core.Bool.{Bool, true, false, cond, _&&_, _||_}

@@ -10,7 +10,7 @@ use borrow.Author.Tests.{le-ltb}
 use native.Mathlib.Omega.{arith}
 use lib.Dec.{ltb, leb, eqb}
 use lib.ListN.{length}
-use Rattle.basis.specs.Words.{_!_, sumBelow, first, found, all, settle}
+use Rattle.basis.specs.Words.{_!_, first, found, all, settle}
 use Rattle.laws.proofs.Tests.{below-or-not}
 use Rattle.laws.proofs.Totals.{sum-same}
 use Rattle.laws.proofs.Places.{first-same, all-same, those-same, map-those-same}
@@ -20,7 +20,7 @@ use Rattle.rules.specs.Admission.{demand, atRest, responseWithin, firstUnadmitt
 use Rattle.rules.specs.FreshStart.{freshB, freshO, freshStart, zeros}
 use Rattle.rules.specs.BusyLength.{active, busyStart, refill, busySum, deadline, busyTest, passes}
 use Rattle.rules.specs.StandingTest.{firstFailing}
-use Rattle.rules.specs.Candidates.{mayRun, members, idleListed, candidates}
+use Rattle.rules.specs.Candidates.{mayRun, members, idleListed, candidates, inversion}
 use Rattle.rules.specs.Weights.{memberWeights, weights}
 use Rattle.rules.specs.Pick.{S, decision}
 use Rattle.rules.specs.Tick.{spend, nextB, nextO, passTime, tick, tickAllowed}
@@ -79,9 +79,9 @@ module _ (n : ℕ) (T B T′ B′ : List ℕ) (t : Agree n T T′) (u : Agree n 
     refill-same j l W = rw (t j l, u j l)
 
     sum-same-busy : (h : ℕ) → h < n → (w W : ℕ) → busySum T B b o h w W ≡ busySum T′ B′ b o h w W
-    unfolding busySum busyStart
+    unfolding busySum
     sum-same-busy h l w W =
-        ap₂ (λ x y. (w + b ! h + sumBelow h (λ j. b ! j)) + x + cond (active b h) 0 y)
+        ap₂ (λ x y. busyStart b h w + x + cond (active b h) 0 y)
         (sum-same h _ _ (λ j k. refill-same j (lt-trans k l) W))
         (refill-same h l W)
 
@@ -90,9 +90,9 @@ module _ (n : ℕ) (T B T′ B′ : List ℕ) (t : Agree n T T′) (u : Agree n 
     deadline-same h l = rw (t h l)
 
     pub test-same : (h : ℕ) → h < n → (w : ℕ) → busyTest T B b o h w ≡ busyTest T′ B′ b o h w
-    unfolding busyTest busyStart
+    unfolding busyTest
     test-same h l w =
-        ap₂ (λ (D : ℕ) (f : ℕ → ℕ). settle (suc D) f (ltb D) (w + b ! h + sumBelow h (λ j. b ! j)))
+        ap₂ (λ (D : ℕ) (f : ℕ → ℕ). settle (suc D) f (ltb D) (busyStart b h w))
         (deadline-same h l)
         (fun-ext (sum-same-busy h l w))
 
@@ -126,11 +126,11 @@ module _ (n : ℕ) (T B T′ B′ : List ℕ) (t : Agree n T T′) (u : Agree n 
 
     pub decision-same : (word : ℕ) → decision n T B b o word ≡ decision n T′ B′ b o word
     unfolding decision S
-    decision-same word = rw (candidates-same 1, weights-same 1)
+    decision-same word = rw (candidates-same inversion, weights-same inversion)
 
     pub allowed-same : (pick : ℕ) → tickAllowed n T B b o pick ≡ tickAllowed n T′ B′ b o pick
     unfolding tickAllowed
-    allowed-same pick = rw (candidates-same 1)
+    allowed-same pick = rw (candidates-same inversion)
 
     pub tick-same : (pick : ℕ) → tick n T B b o pick ≡ tick n T′ B′ b o pick
     unfolding tick passTime nextB nextO

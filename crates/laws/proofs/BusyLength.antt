@@ -99,24 +99,24 @@ module _ (T B b o : List ℕ) where
   witness-passes h w W witness = ap found (witness-finds h w W witness .1)
 
   pub passes-exactly : (h w : ℕ) → (passes T B b o h w ≡ true) ↔ ((W : ℕ) × Witness h w W)
-  passes-exactly h w = (passes-witness h w, λ found. witness-passes h w (found .0) (found .1))
+  passes-exactly h w = (passes-witness h w, λ some-W. witness-passes h w (some-W .0) (some-W .1))
 
   -- a pass with w is a pass with any smaller w
   pub passes-smaller : (h v w : ℕ) → v ≤ w → passes T B b o h w ≡ true → passes T B b o h v ≡ true
   unfolding busySum busyStart
   passes-smaller h v w l p =
-      let found = passes-witness h w p in
-      let covers : busySum T B b o h w (found .0) ≤ found .0 = found .1 .covers in
-      witness-passes h v (found .0) (record { within = found .1 .within; covers = omega arith })
+      let some-W = passes-witness h w p in
+      let covers : busySum T B b o h w (some-W .0) ≤ some-W .0 = some-W .1 .covers in
+      witness-passes h v (some-W .0) (record { within = some-W .1 .within; covers = omega arith })
 
   -- an active partition that passes with w has w ticks to spare
   pub passes-spare : (h w : ℕ) → active b h ≡ true → passes T B b o h w ≡ true → w + b ! h ≤ o ! h
   unfolding deadline busyStart
   passes-spare h w on p =
-      let found = passes-witness h w p in
-      let covers : busySum T B b o h w (found .0) ≤ found .0 = found .1 .covers in
-      let start = start-le-sum h w (found .0) in
-      let in-time : found .0 ≤ o ! h = rw on at (found .1 .within) in
+      let some-W = passes-witness h w p in
+      let covers : busySum T B b o h w (some-W .0) ≤ some-W .0 = some-W .1 .covers in
+      let start = start-le-sum h w (some-W .0) in
+      let in-time : some-W .0 ≤ o ! h = rw on at (some-W .1 .within) in
       omega arith
 
   -- where nothing waits at ranks up to h, h passes with w = 1

@@ -72,6 +72,13 @@ module _ (n : ℕ) (T B b o : List ℕ) (w : ℕ) where
   unfolding mayRun
   first-active-may c off = or-left _ (true-all c _ (λ h l. rw (off h l)))
 
+  -- "The first failed test ends the whole search": below a partition that fails only the first active one, untested, is in
+  pub failure-ends : (h c : ℕ) → h < c → passes T B b o h w ≡ false → mayRun T B b o w c ≡ true → (j : ℕ) → j < c → active b j ≡ false
+  unfolding mayRun
+  failure-ends h c l failed may j k =
+      ⊎-elim (λ off. not-true (active b j) (all-true c _ off j k)) (λ on. never (all-true c _ on h l) failed)
+      (or-cases (all c (λ i. not (active b i))) _ may)
+
   -- the list holds the first active partition, or idle where there is none
   pub somebody : (c : ℕ) × (has (candidates n T B b o w) c ≡ true)
   unfolding idleListed

@@ -1,4 +1,5 @@
 -- Cases of our own, worked by hand, beside 01's ★ ones: 01's first case as a run, and the corners where a rule is easily read wrong.
+use Prim.Native.Nat.{ℕ}
 use mathlib.Core.List.{List, [], _∷_, _++_, map}
 use mathlib.Core.Option.{some}
 use mathlib.Core.Path.{refl}
@@ -17,16 +18,20 @@ use Rattle.rules.specs.Weights.{weight, idleWeight, memberWeights, weigh
 use Rattle.rules.specs.Pick.{position, firstExceeding, S, decision}
 use Rattle.rules.specs.Tick.{spend, replenishes, nextB, nextO, passTime, tick, tickAllowed}
 use Rattle.rules.specs.Release.{release, releaseAllowed}
-use Rattle.rules.specs.Run.{run}
+use Rattle.rules.specs.Run.{Ran, run}
 use Rattle.rules.specs.TaskResponse.{load, nextResponse, settledResponse, taskResponse, ownTasks, rankOf, responseOfTask}
 use Rattle.rules.specs.Refusals.{refusedAs, ground, refusal, badTableOrIndex, noWord, notListed, notActive, shortBuffer}
-use Rattle.rules.specs.Sums.{refused, task}
+use Rattle.rules.specs.Sums.{refused, task, T₁, B₁}
 
 abbrev nine : List Refusal
 nine =
     BadPartition 11 ∷ NotAdmitted 12 ∷ BadPair 13 ∷ NoWord ∷ NotListed 15 ∷ NotActive 16 ∷ ShortBuffer 17 ∷ BadRecord 18
     ∷ BadTask 19
     ∷ []
+
+-- a run of 01's first table, from its fresh start
+abbrev firstCase : List ℕ → Ran
+firstCase = run 2 T₁ B₁ (freshStart 2 T₁ B₁ [])
 
 abbrev pub corners : List Row
 corners =
@@ -64,6 +69,9 @@ corners =
     -- with no active partition the list is idle alone, and weighs all
     ∷ (candidates 2 (4 ∷ 6 ∷ []) (1 ∷ 2 ∷ []) (0 ∷ 0 ∷ []) (4 ∷ 2 ∷ []) inversion is idle ∷ [])
     ∷ (weights 2 (4 ∷ 6 ∷ []) (1 ∷ 2 ∷ []) (0 ∷ 0 ∷ []) (4 ∷ 2 ∷ []) inversion is 65536 ∷ [])
+    -- with w = 3 partition 0, inactive, fails: and yet the first active one is in, and idle where there is none
+    ∷ (candidates 2 (2 ∷ 7 ∷ []) (1 ∷ 1 ∷ []) (0 ∷ 1 ∷ []) (1 ∷ 7 ∷ []) 3 is 1 ∷ [])
+    ∷ (candidates 1 (2 ∷ []) (1 ∷ []) (0 ∷ []) (1 ∷ []) 3 is idle ∷ [])
     -- a position exceeds no running sum that it equals
     ∷ (number (firstExceeding 2 0 (0 ∷ 1 ∷ []) (3 ∷ 4 ∷ [])) is 0 ∷ [])
     ∷ (number (firstExceeding 3 0 (0 ∷ 1 ∷ []) (3 ∷ 4 ∷ [])) is 1 ∷ [])
@@ -76,11 +84,15 @@ corners =
     -- a release changes one number
     ∷ (release (1 ∷ 2 ∷ []) (4 ∷ 6 ∷ []) 1 .b is 1 ∷ 0 ∷ [])
     ∷ (release (1 ∷ 2 ∷ []) (4 ∷ 6 ∷ []) 1 .o is 4 ∷ 6 ∷ [])
-    -- 01's first case: the picks of its six words, and the state at tick 3
-    ∷ (let start = freshStart 2 (4 ∷ 6 ∷ []) (1 ∷ 2 ∷ []) [] in run 2 (4 ∷ 6 ∷ []) (1 ∷ 2 ∷ []) start (20000 ∷ 40000 ∷ 60000 ∷ 5 ∷ 50000 ∷ 0 ∷ []) .picks is 1 ∷ idle ∷ idle ∷ 0 ∷ 0 ∷ 1 ∷ [])
-    ∷ (let start = freshStart 2 (4 ∷ 6 ∷ []) (1 ∷ 2 ∷ []) [] in take 2 (run 2 (4 ∷ 6 ∷ []) (1 ∷ 2 ∷ []) start (20000 ∷ 40000 ∷ 60000 ∷ []) .after .b) is 1 ∷ 1 ∷ [])
-    ∷ (let start = freshStart 2 (4 ∷ 6 ∷ []) (1 ∷ 2 ∷ []) [] in take 2 (run 2 (4 ∷ 6 ∷ []) (1 ∷ 2 ∷ []) start (20000 ∷ 40000 ∷ 60000 ∷ []) .after .o) is 1 ∷ 3 ∷ [])
+    -- 01's first case: the picks of its six words, the state at tick 3, and no words
+    ∷ (firstCase (20000 ∷ 40000 ∷ 60000 ∷ 5 ∷ 50000 ∷ 0 ∷ []) .picks is 1 ∷ idle ∷ idle ∷ 0 ∷ 0 ∷ 1 ∷ [])
+    ∷ (take 2 (firstCase (20000 ∷ 40000 ∷ 60000 ∷ []) .after .b) is 1 ∷ 1 ∷ [])
+    ∷ (take 2 (firstCase (20000 ∷ 40000 ∷ 60000 ∷ []) .after .o) is 1 ∷ 3 ∷ [])
+    ∷ (firstCase [] .picks is [])
+    ∷ (take 2 (firstCase [] .after .b) is 1 ∷ 2 ∷ [])
+    ∷ (take 2 (firstCase [] .after .o) is 4 ∷ 6 ∷ [])
     -- r passes 32 bits, at 2^32 exactly: late; a cost that can't be met at all: late
+    ∷ (number (nextResponse 4096 1 (replicate 16 (task 65535 65535)) 16 16) is 4294967296 ∷ [])
     ∷ (number (taskResponse 4096 1 (replicate 16 (task 65535 65535) ++ task 65535 16 ∷ []) 16) is 0 ∷ [])
     ∷ (number (taskResponse 200 32 (task 100 12 ∷ []) 0) is 0 ∷ [])
     -- ranks are per partition, in table order, even where partitions interleave

@@ -91,6 +91,7 @@ abbrev pub appliesTo : List Ground → ℕ → Option ℕ
 appliesTo [] number = none
 appliesTo (g ∷ gs) number = cond (eqb (g .number) number) (g .applies) (appliesTo gs number)
 
+-- that number, where it applies; else what comes later
 abbrev pub unlessBefore : ℕ → Option ℕ → Option Refused → Option Refused
 unlessBefore number (some second) later = some (record { number = number; second = second })
 unlessBefore number none later = later

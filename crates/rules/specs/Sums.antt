@@ -38,10 +38,10 @@ abbrev pub task : ℕ → ℕ → Work
 task p e = record { p = p; e = e }
 
 -- three of 01's tables
-abbrev T₁ : List ℕ
+abbrev pub T₁ : List ℕ
 T₁ = 4 ∷ 6 ∷ []
 
-abbrev B₁ : List ℕ
+abbrev pub B₁ : List ℕ
 B₁ = 1 ∷ 2 ∷ []
 
 abbrev T₂ : List ℕ

@@ -25,13 +25,13 @@ module _ (T B : ℕ) where
   settledResponse above x = settle (suc (x .p)) (nextResponse above (x .e)) (λ r. ltb (x .p) (T - B + r)) (x .e)
 
   -- "The answer is T − B + r, or 0 for late."
-  abbrev pub answer : Option ℕ → ℕ
-  answer (some r) = T - B + r
-  answer none = 0
+  abbrev pub ticksOrLate : Option ℕ → ℕ
+  ticksOrLate (some r) = T - B + r
+  ticksOrLate none = 0
 
   -- the response of the task at a rank among the partition's own tasks
   unfoldable pub taskResponse : List Work → ℕ → ℕ
-  taskResponse own rank = answer (settledResponse (take rank own) (getD own rank (record { p = 0; e = 0 })))
+  taskResponse own rank = ticksOrLate (settledResponse (take rank own) (getD own rank (record { p = 0; e = 0 })))
 
 -- in a table of m tasks: those of partition h, "rank in table order"
 unfoldable pub ownTasks : ℕ → List ℕ → List ℕ → List ℕ → ℕ → List Work
