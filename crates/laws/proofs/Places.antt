@@ -1,11 +1,12 @@
 -- The first number below n that passes a test, all of them, those of them, and what a list has.
-use Prim.Native.Nat.{ℕ, zero, suc, _<_}
+use Prim.Native.Nat.{ℕ, zero, suc, _+_, _<_}
 use mathlib.Core.Path.{_≡_, refl, _∙_, ap, ap₂, sym}
 use mathlib.Core.Bool.{Bool, true, false, cond, _&&_, _||_}
 use mathlib.Core.List.{List, [], _∷_, _++_, append-nil, map, map-append}
 use mathlib.Core.Option.{Option, some, none}
 use mathlib.Core.Logic.{⊎-elim}
 use native.Mathlib.Nat.{le-step, lt-suc-self, le-of-suc-le-suc}
+use native.Mathlib.Numerals.{add-one}
 use native.Mathlib.Omega.{arith}
 use borrow.Author.Tests.{eqb-true, eq-eqb}
 use lib.Dec.{eqb}
@@ -89,6 +90,14 @@ first-same (suc n) p q h =
     ap₂ (λ (a : Option ℕ) (t : Bool). orElse a (cond t (some n) none))
     (first-same n p q (λ i l. h i (le-step l)))
     (h n (lt-suc-self n))
+
+-- ---- a loop that looks for the first
+pub first-next : (i : ℕ) (test : ℕ → Bool) → first i test ≡ none → test i ≡ false → first (i + 1) test ≡ none
+unfolding first
+first-next i test before off = rw (add-one i, before, off)
+
+pub first-here : (i n : ℕ) (test : ℕ → Bool) → first i test ≡ none → i < n → test i ≡ true → first n test ≡ some i
+first-here i n test before l on = some-first n test i (record { below = l; passed = on; earlier = first-none i test before })
 
 -- ---- what a list has
 pub has-append : (xs ys : List ℕ) (x : ℕ) → has (xs ++ ys) x ≡ (has xs x || has ys x)

@@ -115,5 +115,5 @@ corners =
     ∷ []
 
 pub corners-hold : Hold corners
-unfolding ceil sumBelow total has all those first filled settle partitionInRange firstBadPartition taskInRange firstBadTask pairInRange firstBadPair demand atRest responseWithin firstUnadmitted freshB freshO freshStart arrivals active busyStart refill busySum deadline busyTest passes firstFailing mayRun members idleListed candidates weight idleWeight memberWeights weights position firstExceeding S decision spend replenishes nextB nextO passTime tick tickAllowed release releaseAllowed run load nextResponse settledResponse taskResponse ownTasks rankOf responseOfTask
+unfolding ceil sumBelow total has all those first filled settle partitionInRange firstBadPartition taskInRange firstBadTask pairInRange firstBadPair demand atRest responseWithin firstUnadmitted freshB freshO freshStart arrivals active busyStart refill busySum deadline busyTest passes firstFailing mayRun members idleListed candidates weight idleWeight memberWeights weights position firstExceeding S decision spend replenishes nextB nextO passTime tick tickAllowed release releaseAllowed run load nextResponse settledResponse taskResponse ownTasks rankOf responseOfTask refusal
 corners-hold = refl

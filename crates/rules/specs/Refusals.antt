@@ -102,5 +102,5 @@ firstApplying [] gs = none
 firstApplying (number ∷ numbers) gs = unlessBefore number (appliesTo gs number) (firstApplying numbers gs)
 
 -- why a call with these grounds is refused, if it is
-abbrev pub refusal : List Ground → Option Refused
+unfoldable pub refusal : List Ground → Option Refused
 refusal = firstApplying order

@@ -92,5 +92,5 @@ sums =
     ∷ []
 
 pub sums-hold : Hold sums
-unfolding ceil sumBelow total all those first filled settle demand atRest responseWithin firstUnadmitted freshB freshO freshStart arrivals active busyStart refill busySum deadline busyTest passes mayRun members idleListed candidates weight idleWeight memberWeights weights position firstExceeding S decision load nextResponse settledResponse taskResponse
+unfolding ceil sumBelow total all those first filled settle demand atRest responseWithin firstUnadmitted freshB freshO freshStart arrivals active busyStart refill busySum deadline busyTest passes mayRun members idleListed candidates weight idleWeight memberWeights weights position firstExceeding S decision load nextResponse settledResponse taskResponse refusal
 sums-hold = refl

@@ -1,0 +1,4 @@
+-- what the tests of this crate's functions amount to
+pub mod Steps
+-- going on from a verdict
+pub mod Verdicts

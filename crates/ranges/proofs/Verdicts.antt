@@ -1,0 +1,48 @@
+-- Going on from a verdict: what was refused stays refused, and where there was nothing against it, what comes later decides.
+use Prim.Native.Nat.{ℕ}
+use mathlib.Core.Path.{_≡_, refl, sym, _∙_, ap}
+use mathlib.Core.List.{List, [], _∷_}
+use mathlib.Core.Option.{Option, some, none}
+use Rattle.rules.specs.Numbers.{firstBadPartition, firstBadPair}
+use Rattle.rules.specs.Refusals.{Refused, refusedAs, Ground, ground, badTable, badState, refusal, unlessBefore}
+use Rattle.rules.specs.declared.Refusal.{Refusal}
+use Rattle.laws.proofs.Tests.{none-is-some, some-is-none}
+use Rattle.ranges.specs.Verdicts.{verdictAs}
+use Rattle.ranges.specs.declared.Verdict.{Verdict}
+use Rattle.ranges.specs.declared.Verdict.the-variants as verdict
+
+-- the verdict is a refusal, or none
+pub verdict-refused : (v : Verdict) (r : Refusal) → v ≡ verdict.Refused r → verdictAs v ≡ some (refusedAs r)
+unfolding verdictAs
+verdict-refused v r e = ap verdictAs e
+
+pub verdict-good : (v : Verdict) → v ≡ verdict.Good → verdictAs v ≡ none
+unfolding verdictAs
+verdict-good v e = ap verdictAs e
+
+module _ (number : ℕ) (later : Option Refused) where
+  refused-before : (x : Option ℕ) (r : Refused) → unlessBefore number x none ≡ some r → unlessBefore number x later ≡ some r
+  refused-before (some second) r e = e
+  refused-before none r e = none-is-some e
+
+  nothing-before : (x : Option ℕ) → unlessBefore number x none ≡ none → unlessBefore number x later ≡ later
+  nothing-before (some second) e = some-is-none e
+  nothing-before none e = refl
+
+-- the table is judged before the state
+module _ (n : ℕ) (T B phase b o : List ℕ) where
+  pub table-first : (r : Refused) → refusal (badTable n T B phase ∷ []) ≡ some r → refusal (badTable n T B phase ∷ badState n T B b o ∷ []) ≡ some r
+  unfolding refusal
+  table-first r e = refused-before 1 _ (firstBadPartition n T B phase) r e
+
+  pub then-state : refusal (badTable n T B phase ∷ []) ≡ none → refusal (badTable n T B phase ∷ badState n T B b o ∷ []) ≡ refusal (badState n T B b o ∷ [])
+  unfolding refusal
+  then-state e = nothing-before 1 _ (firstBadPartition n T B phase) e
+
+  pub judged-table : (v : Verdict) (r : Refusal) → verdictAs v ≡ refusal (badTable n T B phase ∷ []) → v ≡ verdict.Refused r
+      → verdictAs (verdict.Refused r) ≡ refusal (badTable n T B phase ∷ badState n T B b o ∷ [])
+  judged-table v r e d = verdict-refused (verdict.Refused r) r refl ∙ sym (table-first (refusedAs r) (sym e ∙ verdict-refused v r d))
+
+  pub judged-state : (v next : Verdict) → verdictAs v ≡ refusal (badTable n T B phase ∷ []) → v ≡ verdict.Good → verdictAs next ≡ refusal (badState n T B b o ∷ [])
+      → verdictAs next ≡ refusal (badTable n T B phase ∷ badState n T B b o ∷ [])
+  judged-state v next e d f = f ∙ sym (then-state (sym e ∙ verdict-good v d))

@@ -1,0 +1,33 @@
+use borrow.Author.Needs.{needs}
+use Rattle.ranges.proofs.Verdicts.{judged-table, judged-state}
+use Rattle.ranges.proofs.judge.Statement.{statement}
+use Rattle.ranges.proofs.judge.Tie as tie
+
+judge-table-requires : tie.Need-judge-table-requires
+judge-table-requires c κs = search needs
+
+enum-known-table : tie.Need-enum-known-table
+enum-known-table c = search needs
+
+returns : tie.Need-returns
+returns c = search (needs, judged-table, c .before .table .given .1)
+
+enum-told : tie.Need-enum-told
+enum-told c = search needs
+
+judge-state-requires : tie.Need-judge-state-requires
+judge-state-requires c κs = search needs
+
+returns-2 : tie.Need-returns-2
+returns-2 c = search (needs, judged-state, c .before .enum-told .given .1)
+
+pub judge-spec : {M : Type 1} → statement M
+judge-spec =
+    tie.close
+    (tie.spec
+    judge-table-requires
+    enum-known-table
+    returns
+    enum-told
+    judge-state-requires
+    returns-2)

@@ -1,0 +1,46 @@
+use Prim.Native.Nat.{_-_, _≤_}
+use borrow.Author.Needs.{needs}
+use Rattle.ranges.proofs.Steps.{StateUpTo, state-begins, state-goes-on, bad-state, good-state}
+use Rattle.ranges.proofs.judge_state.Statement.{statement}
+use Rattle.ranges.proofs.judge_state.Tie as tie
+
+abbrev Inv-loop : tie.InvT-loop
+Inv-loop n period budget b o i₀ i = (i ≤ 16) × StateUpTo n period budget b o i
+
+abbrev μ-loop : tie.MeasureT-loop
+μ-loop n period budget b o i₀ i = 16 - i
+
+loop-holds : tie.Need-loop-holds Inv-loop μ-loop
+loop-holds c = search (needs, state-begins)
+
+pair-at-in-range-requires : tie.Need-pair-at-in-range-requires Inv-loop μ-loop
+pair-at-in-range-requires c κs = search needs
+
+returns : tie.Need-returns Inv-loop μ-loop
+returns c = search (needs, bad-state)
+
+add-i : tie.Need-add-i Inv-loop μ-loop
+add-i c = search needs
+
+loop-less : tie.Need-loop-less Inv-loop μ-loop
+loop-less c = search needs
+
+loop-again : tie.Need-loop-again Inv-loop μ-loop
+loop-again c = search (needs, state-goes-on)
+
+returns-2 : tie.Need-returns-2 Inv-loop μ-loop
+returns-2 c = search (needs, good-state)
+
+pub judge-state-spec : {M : Type 1} → statement M
+judge-state-spec =
+    tie.close
+    (tie.spec
+    Inv-loop
+    μ-loop
+    loop-holds
+    pair-at-in-range-requires
+    returns
+    add-i
+    loop-less
+    loop-again
+    returns-2)

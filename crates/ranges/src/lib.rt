@@ -1,0 +1,128 @@
+// What is in range: a table and the pairs of a state, judged and refused by number.
+ghost use mathlib.Core.Path.{_≡_};
+ghost use mathlib.Core.Bool.{_&&_};
+ghost use mathlib.Core.List.{[], _∷_};
+ghost use Prim.Native.Nat.{_<_};
+ghost use Rattle.basis.specs.Words.{_!_, within};
+ghost use Rattle.rules.specs.Numbers.{partitionInRange, pairInRange};
+ghost use Rattle.rules.specs.Refusals.{badTable, badState, refusal};
+ghost use Rattle.ranges.specs.Verdicts.{verdictAs};
+use rules::Refusal;
+
+// Nothing against it, or why it is refused.
+pub enum Verdict {
+    Good,
+    Refused(Refusal),
+}
+
+// At least `low` and at most `high`.
+fn lies_within(low: u16, high: u16, x: u16) -> bool
+    ensures { λ r. ⌜ r ≡ within low high x ⌝ }
+{
+    if x < low {
+        return false;
+    }
+    x <= high
+}
+
+fn partition_in_range(period: u16, budget: u16, phase: u16) -> bool
+    ensures { λ r. ⌜ r ≡ partitionInRange period budget phase ⌝ }
+{
+    if !lies_within(1, 4096, period) {
+        return false;
+    }
+    if !lies_within(1, period, budget) {
+        return false;
+    }
+    lies_within(0, period - 1, phase)
+}
+
+fn pair_in_range(period: u16, budget: u16, b: u16, o: u16) -> bool
+    ensures { λ r. ⌜ r ≡ (within 0 budget b && within 1 period o) ⌝ }
+{
+    if !lies_within(0, budget, b) {
+        return false;
+    }
+    lies_within(1, period, o)
+}
+
+// A pair inside the table is within its partition's numbers, and one beyond it is 0, 0.
+fn pair_at_in_range<'t, 's>(
+    n: usize,
+    period: &'t [u16; 16],
+    budget: &'t [u16; 16],
+    b: &'s [u16; 16],
+    o: &'s [u16; 16],
+    i: usize,
+) -> bool
+    requires { ⌜ i < 16 ⌝ }
+    ensures { λ r. ⌜ r ≡ pairInRange n (now (period .entry)) (now (budget .entry)) (now (b .entry)) (now (o .entry)) i ⌝ }
+{
+    if i < n {
+        return pair_in_range(period[i], budget[i], b[i], o[i]);
+    }
+    if b[i] > 0 {
+        return false;
+    }
+    o[i] == 0
+}
+
+// Refusal 1. A count is judged before the fields.
+pub fn judge_table<'t>(
+    n: usize,
+    period: &'t [u16; 16],
+    budget: &'t [u16; 16],
+    phase: &'t [u16; 16],
+) -> Verdict
+    ensures { λ r. ⌜ verdictAs r ≡ refusal (badTable n (now (period .entry)) (now (budget .entry)) (now (phase .entry)) ∷ []) ⌝ }
+{
+    if n == 0 {
+        return Verdict::Refused(Refusal::BadPartition(0));
+    }
+    if n > 16 {
+        return Verdict::Refused(Refusal::BadPartition(16));
+    }
+    for i in 0..n {
+        if !partition_in_range(period[i], budget[i], phase[i]) {
+            return Verdict::Refused(Refusal::BadPartition(i));
+        }
+    }
+    Verdict::Good
+}
+
+// Refusal 3, of all 16 pairs.
+pub fn judge_state<'t, 's>(
+    n: usize,
+    period: &'t [u16; 16],
+    budget: &'t [u16; 16],
+    b: &'s [u16; 16],
+    o: &'s [u16; 16],
+) -> Verdict
+    ensures { λ r. ⌜ verdictAs r ≡ refusal (badState n (now (period .entry)) (now (budget .entry)) (now (b .entry)) (now (o .entry)) ∷ []) ⌝ }
+{
+    for i in 0..16 {
+        if !pair_at_in_range(n, period, budget, b, o, i) {
+            return Verdict::Refused(Refusal::BadPair(i));
+        }
+    }
+    Verdict::Good
+}
+
+// Refusals 1 and 3, in this order.
+pub fn judge<'t, 's>(
+    n: usize,
+    period: &'t [u16; 16],
+    budget: &'t [u16; 16],
+    phase: &'t [u16; 16],
+    b: &'s [u16; 16],
+    o: &'s [u16; 16],
+) -> Verdict
+    ensures { λ r. ⌜ verdictAs r ≡ refusal (badTable n (now (period .entry)) (now (budget .entry)) (now (phase .entry))
+        ∷ badState n (now (period .entry)) (now (budget .entry)) (now (b .entry)) (now (o .entry)) ∷ []) ⌝ }
+{
+    let table = judge_table(n, period, budget, phase);
+    if let Verdict::Refused(r) = table {
+        return Verdict::Refused(r);
+    }
+    judge_state(n, period, budget, b, o)
+}
