@@ -2,3 +2,5 @@
 pub mod Steps
 -- going on from a verdict
 pub mod Verdicts
+-- from a verdict to what a call says
+pub mod Outcomes

@@ -1,11 +1,14 @@
 -- Going on from a verdict: what was refused stays refused, and where there was nothing against it, what comes later decides.
-use Prim.Native.Nat.{ℕ}
+use Prim.Native.Nat.{ℕ, _≤_, _<_}
 use mathlib.Core.Path.{_≡_, refl, sym, _∙_, ap}
 use mathlib.Core.List.{List, [], _∷_}
 use mathlib.Core.Option.{Option, some, none}
-use Rattle.rules.specs.Numbers.{firstBadPartition, firstBadPair}
-use Rattle.rules.specs.Refusals.{Refused, refusedAs, Ground, ground, badTable, badState, refusal, unlessBefore}
+use borrow.Author.Tests.{lt-ltb, le-ltb}
+use Rattle.basis.specs.Words.{orElse}
+use Rattle.rules.specs.Numbers.{firstBadPartition}
+use Rattle.rules.specs.Refusals.{Refused, refusedAs, badTable, badTableOrIndex, badState, refusal, unlessBefore}
 use Rattle.rules.specs.declared.Refusal.{Refusal}
+use Rattle.rules.specs.declared.Refusal.the-variants.{BadPartition}
 use Rattle.laws.proofs.Tests.{none-is-some, some-is-none}
 use Rattle.ranges.specs.Verdicts.{verdictAs}
 use Rattle.ranges.specs.declared.Verdict.{Verdict}
@@ -46,3 +49,30 @@ module _ (n : ℕ) (T B phase b o : List ℕ) where
   pub judged-state : (v next : Verdict) → verdictAs v ≡ refusal (badTable n T B phase ∷ []) → v ≡ verdict.Good → verdictAs next ≡ refusal (badState n T B b o ∷ [])
       → verdictAs next ≡ refusal (badTable n T B phase ∷ badState n T B b o ∷ [])
   judged-state v next e d f = f ∙ sym (then-state (sym e ∙ verdict-good v d))
+
+-- a partition that isn't there comes after the fields
+module _ (n : ℕ) (T B phase : List ℕ) (h : ℕ) where
+  index-after : (x : Option ℕ) → unlessBefore 1 x none ≡ none → (y : Option ℕ) → unlessBefore 1 (orElse x y) none ≡ unlessBefore 1 y none
+  index-after none e y = refl
+  index-after (some i) e y = some-is-none e
+
+  fields-first : (x : Option ℕ) (r : Refused) → unlessBefore 1 x none ≡ some r → (y : Option ℕ) → unlessBefore 1 (orElse x y) none ≡ some r
+  fields-first none r e y = none-is-some e
+  fields-first (some i) r e y = e
+
+  pub judged-fields : (v : Verdict) (r : Refusal) → verdictAs v ≡ refusal (badTable n T B phase ∷ []) → v ≡ verdict.Refused r
+      → verdictAs (verdict.Refused r) ≡ refusal (badTableOrIndex n T B phase h ∷ [])
+  unfolding refusal
+  judged-fields v r e d =
+      verdict-refused (verdict.Refused r) r refl
+      ∙ sym (fields-first (firstBadPartition n T B phase) (refusedAs r) (sym e ∙ verdict-refused v r d) _)
+
+  pub judged-absent : (v : Verdict) → verdictAs v ≡ refusal (badTable n T B phase ∷ []) → v ≡ verdict.Good → n ≤ h
+      → verdictAs (verdict.Refused (BadPartition h)) ≡ refusal (badTableOrIndex n T B phase h ∷ [])
+  unfolding refusal verdictAs
+  judged-absent v e d l = sym (index-after (firstBadPartition n T B phase) (sym e ∙ verdict-good v d) _ ∙ rw (le-ltb h n l))
+
+  pub judged-there : (v : Verdict) → verdictAs v ≡ refusal (badTable n T B phase ∷ []) → v ≡ verdict.Good → h < n
+      → verdictAs verdict.Good ≡ refusal (badTableOrIndex n T B phase h ∷ [])
+  unfolding refusal verdictAs
+  judged-there v e d l = sym (index-after (firstBadPartition n T B phase) (sym e ∙ verdict-good v d) _ ∙ rw (lt-ltb h n l))

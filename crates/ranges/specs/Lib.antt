@@ -1,2 +1,4 @@
--- how the code's verdict is read as 01's refusals
+-- what a call says
+pub mod Outcome
+-- the code's verdict, read as 01's refusals
 pub mod Verdicts

@@ -5,7 +5,7 @@ ghost use mathlib.Core.List.{[], _∷_};
 ghost use Prim.Native.Nat.{_<_};
 ghost use Rattle.basis.specs.Words.{_!_, within};
 ghost use Rattle.rules.specs.Numbers.{partitionInRange, pairInRange};
-ghost use Rattle.rules.specs.Refusals.{badTable, badState, refusal};
+ghost use Rattle.rules.specs.Refusals.{badTable, badTableOrIndex, badState, refusal};
 ghost use Rattle.ranges.specs.Verdicts.{verdictAs};
 use rules::Refusal;
 
@@ -86,6 +86,26 @@ pub fn judge_table<'t>(
         if !partition_in_range(period[i], budget[i], phase[i]) {
             return Verdict::Refused(Refusal::BadPartition(i));
         }
+    }
+    Verdict::Good
+}
+
+// Refusal 1 once more: a partition asked for that isn't there, after the fields.
+pub fn judge_index<'t>(
+    n: usize,
+    period: &'t [u16; 16],
+    budget: &'t [u16; 16],
+    phase: &'t [u16; 16],
+    h: usize,
+) -> Verdict
+    ensures { λ r. ⌜ verdictAs r ≡ refusal (badTableOrIndex n (now (period .entry)) (now (budget .entry)) (now (phase .entry)) h ∷ []) ⌝ }
+{
+    let table = judge_table(n, period, budget, phase);
+    if let Verdict::Refused(r) = table {
+        return Verdict::Refused(r);
+    }
+    if n <= h {
+        return Verdict::Refused(Refusal::BadPartition(h));
     }
     Verdict::Good
 }

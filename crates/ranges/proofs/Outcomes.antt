@@ -1,0 +1,71 @@
+-- From a verdict to what a call says.
+use Prim.Native.Nat.{ℕ, _≤_, _<_}
+use mathlib.Core.Path.{_≡_, refl, sym, _∙_, ap}
+use mathlib.Core.Bool.{Bool, true, false}
+use mathlib.Core.List.{List, [], _∷_}
+use mathlib.Core.Option.{Option, some, none}
+use borrow.Author.Tests.{ltb-true}
+use lib.Dec.{ltb}
+use Rattle.basis.specs.Words.{orElse, unless}
+use Rattle.rules.specs.Numbers.{firstBadPartition, TableInRange, firstBadPair}
+use Rattle.rules.specs.Refusals.{Refused, refusedAs, Ground, badTable, badTableOrIndex, badState, refusal, unlessBefore}
+use Rattle.rules.specs.declared.Refusal.{Refusal}
+use Rattle.laws.proofs.Tests.{some-is-none}
+use Rattle.ranges.specs.Outcome.{Outcome, refused, gives, unlessRefused}
+use Rattle.ranges.specs.Verdicts.{verdictAs}
+use Rattle.ranges.specs.declared.Verdict.{Verdict}
+use Rattle.ranges.specs.declared.Verdict.the-variants as verdict
+use Rattle.ranges.proofs.Verdicts.{verdict-refused, verdict-good}
+
+module _ {A : Type 0} (x : A) (gs : List Ground) where
+  -- a refusal is handed on
+  pub hands-on : (v : Verdict) (r : Refusal) → verdictAs v ≡ refusal gs → v ≡ verdict.Refused r → refused (refusedAs r) ≡ unlessRefused (refusal gs) x
+  unfolding unlessRefused
+  hands-on v r e d = rw (sym e ∙ verdict-refused v r d)
+
+  -- and where there is none, the answer is given
+  pub not-refused : (v : Verdict) → verdictAs v ≡ refusal gs → v ≡ verdict.Good → unlessRefused (refusal gs) x ≡ gives x
+  unfolding unlessRefused
+  not-refused v e d = rw (sym e ∙ verdict-good v d)
+
+none-before : (number : ℕ) (x : Option ℕ) (later : Option Refused) → unlessBefore number x later ≡ none → x ≡ none
+none-before number (some second) later e = some-is-none e
+none-before number none later e = refl
+
+-- what a good verdict says
+module _ (n : ℕ) (T B phase : List ℕ) where
+  pub table-in-range : (v : Verdict) → verdictAs v ≡ refusal (badTable n T B phase ∷ []) → v ≡ verdict.Good → TableInRange n T B phase
+  unfolding refusal
+  table-in-range v e d = none-before 1 _ none (sym e ∙ verdict-good v d)
+
+  module _ (h : ℕ) (v : Verdict) (e : verdictAs v ≡ refusal (badTableOrIndex n T B phase h ∷ [])) (d : v ≡ verdict.Good) where
+    neither : (x : Option ℕ) (a : Option ℕ) → orElse x a ≡ none → (x ≡ none) × (a ≡ none)
+    neither none a p = (refl, p)
+    neither (some i) a p = some-is-none p
+
+    both-good : (firstBadPartition n T B phase ≡ none) × (unless (ltb h n) h ≡ none)
+    unfolding refusal
+    both-good = neither _ _ (none-before 1 _ none (sym e ∙ verdict-good v d))
+
+    pub indexed-table : TableInRange n T B phase
+    indexed-table = both-good .0
+
+    pub indexed-there : h < n
+    indexed-there = ltb-true h n (go (ltb h n) (both-good .1))
+      where
+        go : (a : Bool) → unless a h ≡ none → a ≡ true
+        go true p = refl
+        go false p = some-is-none p
+
+  module _ (b o : List ℕ) where
+    pub judged-table-good : (v : Verdict) → verdictAs v ≡ refusal (badTable n T B phase ∷ badState n T B b o ∷ []) → v ≡ verdict.Good → TableInRange n T B phase
+    unfolding refusal
+    judged-table-good v e d = none-before 1 _ _ (sym e ∙ verdict-good v d)
+
+    pub judged-state-good : (v : Verdict) → verdictAs v ≡ refusal (badTable n T B phase ∷ badState n T B b o ∷ []) → v ≡ verdict.Good → firstBadPair n T B b o ≡ none
+    unfolding refusal
+    judged-state-good v e d = none-before 3 _ none (later (firstBadPartition n T B phase) (judged-table-good v e d) (sym e ∙ verdict-good v d))
+      where
+        later : (x : Option ℕ) → x ≡ none → unlessBefore 1 x (unlessBefore 3 (firstBadPair n T B b o) none) ≡ none → unlessBefore 3 (firstBadPair n T B b o) none ≡ none
+        later none p q = q
+        later (some i) p q = some-is-none p

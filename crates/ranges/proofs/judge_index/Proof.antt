@@ -1,0 +1,27 @@
+use borrow.Author.Needs.{needs}
+use Rattle.ranges.proofs.Verdicts.{judged-fields, judged-absent, judged-there}
+use Rattle.ranges.proofs.judge_index.Statement.{statement}
+use Rattle.ranges.proofs.judge_index.Tie as tie
+
+judge-table-requires : tie.Need-judge-table-requires
+judge-table-requires c κs = search needs
+
+enum-known-table : tie.Need-enum-known-table
+enum-known-table c = search needs
+
+returns : tie.Need-returns
+returns c = search (needs, judged-fields, c .before .table .given .1)
+
+enum-told : tie.Need-enum-told
+enum-told c = search needs
+
+returns-2 : tie.Need-returns-2
+returns-2 c = search (needs, judged-absent, c .before .enum-told .given .1)
+
+returns-3 : tie.Need-returns-3
+returns-3 c = search (needs, judged-there, c .before .enum-told .given .1)
+
+pub judge-index-spec : {M : Type 1} → statement M
+judge-index-spec =
+    tie.close
+    (tie.spec judge-table-requires enum-known-table returns enum-told returns-2 returns-3)
