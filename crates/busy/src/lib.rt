@@ -1,23 +1,36 @@
 // The busy test, and what it decides: the standing test and admission.
 ghost use mathlib.Core.Path.{_≡_};
-ghost use Prim.Native.Nat.{_+_, _*_, _<_, _≤_};
-ghost use Rattle.basis.specs.Words.{_!_, sumBelow};
-ghost use Rattle.rules.specs.BusyLength.{arrivals, refill, busyTest, deadline};
+ghost use mathlib.Core.Bool.{cond, _&&_};
+ghost use Prim.Native.Nat.{suc, _+_, _*_, _<_, _≤_};
+ghost use lib.Dec.{ltb};
+ghost use Rattle.basis.specs.Words.{_!_, sumBelow, settle};
+ghost use Rattle.rules.specs.BusyLength.{arrivals, refill, busyTest, passes};
 ghost use Rattle.rules.specs.StandingTest.{firstFailing};
-ghost use Rattle.busy.specs.Inner.{Bounded, lengthWithin, placeOf, passesHere};
+ghost use Rattle.ranges.specs.Outcome.{gives};
+ghost use Rattle.busy.specs.Answers.{testAs, lengthAs};
+ghost use Rattle.busy.specs.Inner.{Reckoned, filling};
 
 use rules::Refusal;
+use rules::Table;
 
-// A busy length that is within the deadline, or none.
-enum Length {
+// Whether all partitions pass, or which is the first that fails.
+pub enum Test {
+    Passes,
+    Fails(usize),
+    Refused(Refusal),
+}
+
+// A length of time in ticks that is within its deadline, or that it is over.
+pub enum Length {
     Within(u64),
     Over,
+    Refused(Refusal),
 }
 
 // What the replenishments before `w` add, of one partition: max(0, ceil((w − o)/T))·B. No division where a comparison decides.
-fn refill(period: u16, budget: u16, next: u16, w: u64) -> u64
+fn refill_of(period: u16, budget: u16, next: u16, w: u64) -> u64
     requires { ⌜ w < 131072 ⌝ }
-    ensures { λ r. ⌜ Bounded (arrivals next period w * budget) r ⌝ }
+    ensures { λ r. ⌜ Reckoned 8589934592 (arrivals next period w * budget) r ⌝ }
 {
     let o = next as u64;
     if w <= o {
@@ -31,23 +44,107 @@ fn refill(period: u16, budget: u16, next: u16, w: u64) -> u64
     if t == 0 {
         return 0;
     }
-    (late + (t - 1)) / t * (budget as u64)
+    let times = (late + (t - 1)) / t;
+    times * (budget as u64)
 }
 
-// The refills of all above `h`.
-fn refills<'t>(
+// What the replenishments before `w` add, of all partitions above `top`.
+fn refills<'t, 's>(
     period: &'t [u16; 16],
     budget: &'t [u16; 16],
-    next: &[u16; 16],
-    h: usize,
+    o: &'s [u16; 16],
+    top: usize,
     w: u64,
 ) -> u64
-    requires { ⌜ (h ≤ 16) × (w < 131072) ⌝ }
-    ensures { λ r. ⌜ Bounded16 (sumBelow h (λ j. refill (now (period .entry)) (now (budget .entry)) (now (next .entry)) j w)) r ⌝ }
+    requires { ⌜ (top ≤ 16) × (w < 131072) ⌝ }
+    ensures { λ r. ⌜ Reckoned 137438953473 (sumBelow top (λ j. refill (now (period .entry)) (now (budget .entry)) (now (o .entry)) j w)) r ⌝ }
+{
+    let mut sum = 0;
+    for j in 0..top {
+        sum += refill_of(period[j], budget[j], o[j], w);
+    }
+    sum
+}
+
+// A field as a number to reckon with.
+fn wide(x: u16) -> u64
+    ensures { λ r. ⌜ Reckoned 65536 x r ⌝ }
+{
+    x as u64
+}
+
+// What is left of the budgets of all partitions above `h`.
+fn waiting(b: &[u16; 16], h: usize) -> u64
+    requires { ⌜ h ≤ 16 ⌝ }
+    ensures { λ r. ⌜ Reckoned 1048577 (sumBelow h (λ j. now (b .entry) ! j)) r ⌝ }
 {
     let mut sum = 0;
     for j in 0..h {
-        sum += refill(period[j], budget[j], next[j], w);
+        sum += wide(b[j]);
     }
     sum
+}
+
+// The deadline from now, of a partition that has `b` left and is replenished in `o` ticks.
+fn due(period: u16, b: u16, o: u16) -> u64
+    ensures { λ r. ⌜ Reckoned 131072 (cond (ltb 0 b) o (o + period)) r ⌝ }
+{
+    if b > 0 {
+        return wide(o);
+    }
+    wide(o) + wide(period)
+}
+
+// How many partitions' refills count for `h`: all above it, and its own where it has nothing left.
+fn counted(b: u16, h: usize) -> usize
+    requires { ⌜ h < 16 ⌝ }
+    ensures { λ r. ⌜ r ≡ cond (ltb 0 b) h (h + 1) ⌝ }
+{
+    if b > 0 {
+        return h;
+    }
+    h + 1
+}
+
+// From `start`, with the refills of `top` partitions added to it: repeats until it stands still, or is past the deadline.
+fn settled<'t, 's>(
+    period: &'t [u16; 16],
+    budget: &'t [u16; 16],
+    o: &'s [u16; 16],
+    top: usize,
+    start: u64,
+    deadline: u64,
+) -> Length
+    requires { ⌜ (top ≤ 16) × (start < 2097152) × (deadline < 131072) ⌝ }
+    ensures { λ r. ⌜ lengthAs r ≡ gives (settle (suc deadline) (filling (now (period .entry)) (now (budget .entry)) (now (o .entry)) top start) (ltb deadline) start) ⌝ }
+{
+    let mut length = start;
+    while length <= deadline {
+        let sum = start + refills(period, budget, o, top, length);
+        if sum == length {
+            return Length::Within(length);
+        }
+        length = sum;
+    }
+    Length::Over
+}
+
+// The busy length of `h` with inversion `w`, if it is at most the deadline.
+fn busy<'t, 's>(
+    period: &'t [u16; 16],
+    budget: &'t [u16; 16],
+    b: &'s [u16; 16],
+    o: &'s [u16; 16],
+    h: usize,
+    w: u64,
+) -> Length
+    requires { ⌜ h < 16 ⌝ }
+    ensures { λ r. ⌜ lengthAs r ≡ gives (busyTest (now (period .entry)) (now (budget .entry)) (now (b .entry)) (now (o .entry)) h w) ⌝ }
+{
+    let deadline = due(period[h], b[h], o[h]);
+    if w > deadline {
+        return Length::Over;
+    }
+    let start = w + wide(b[h]) + waiting(b, h);
+    settled(period, budget, o, counted(b[h], h), start, deadline)
 }

@@ -33,7 +33,7 @@ cond-mono true h = le-refl 0
 cond-mono false h = h
 
 module _ (T B b o : List ℕ) where
-  refill-mono : (j W X : ℕ) → W ≤ X → refill T B o j W ≤ refill T B o j X
+  pub refill-mono : (j W X : ℕ) → W ≤ X → refill T B o j W ≤ refill T B o j X
   unfolding refill
   refill-mono j W X h = mul-le-mul-right (B ! j) (arrivals-mono (o ! j) (T ! j) W X h)
 

@@ -7,6 +7,7 @@ use mathlib.Core.Bool.{Bool, true, false, cond}
 use borrow.Author.Tests.{eqb-true}
 use lib.Dec.{eqb}
 use native.Mathlib.Nat.{le-refl, add-le-add, le-step, lt-suc-self, zero-add, add-zero, add-assoc}
+use native.Mathlib.Numerals.{add-one}
 use native.Mathlib.Omega.{arith}
 use Rattle.basis.specs.Words.{sumBelow, total, has, those}
 use Rattle.laws.proofs.Tests.{or-cases, never, below-cases}
@@ -15,6 +16,10 @@ pub sum-mono : (n : ℕ) (f g : ℕ → ℕ) → ((j : ℕ) → j < n → f j �
 unfolding sumBelow
 sum-mono zero f g h = le-refl 0
 sum-mono (suc n) f g h = add-le-add (sum-mono n f g (λ j l. h j (le-step l))) (h n (lt-suc-self n))
+
+pub sum-one-more : (n : ℕ) (f : ℕ → ℕ) → sumBelow (n + 1) f ≡ sumBelow n f + f n
+unfolding sumBelow
+sum-one-more n f = rw (add-one n)
 
 pub sum-same : (n : ℕ) (f g : ℕ → ℕ) → ((j : ℕ) → j < n → f j ≡ g j) → sumBelow n f ≡ sumBelow n g
 unfolding sumBelow

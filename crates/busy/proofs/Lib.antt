@@ -1,0 +1,6 @@
+-- sums as a loop makes them
+pub mod Sums
+-- one partition's replenishments
+pub mod Refill
+-- the repetition
+pub mod Repetition

@@ -1,0 +1,16 @@
+use borrow.Author.Needs.{needs}
+use Rattle.busy.proofs.Repetition.{counted-above, counted-own}
+use Rattle.busy.proofs.counted.Statement.{statement}
+use Rattle.busy.proofs.counted.Tie as tie
+
+returns : tie.Need-returns
+returns c = search (needs, counted-above)
+
+add-result : tie.Need-add-result
+add-result c = search needs
+
+returns-2 : tie.Need-returns-2
+returns-2 c = search (needs, counted-own)
+
+pub counted-spec : {M : Type 1} → statement M
+counted-spec = tie.close (tie.spec returns add-result returns-2)

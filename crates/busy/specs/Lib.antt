@@ -1,0 +1,4 @@
+-- the code's answers, read as 01's numbers and values
+pub mod Answers
+-- what the inner functions give
+pub mod Inner
