@@ -14,7 +14,6 @@ use Rattle.rules.specs.BusyLength.{active, busyStart, refill, busySum, deadline
 use Rattle.laws.proofs.Totals.{sum-mono, sum-one-more}
 use Rattle.laws.proofs.Settle.{Rising, Repeating, repeating-begins, repeated-past, repeated-still, repeating-rises, repeating-on}
 use Rattle.laws.proofs.BusyLength.{refill-mono}
-use Rattle.ranges.specs.Outcome.{Outcome, gives}
 use Rattle.busy.specs.Inner.{Reckoned, filling}
 
 -- "b > 0" decides what is counted
@@ -49,18 +48,18 @@ module _ (T B o : List ℕ) (top start D : ℕ) where
   going-begins = repeating-begins (filling T B o top start) D start (omega arith)
 
   module _ (W : ℕ) (here : Going W) where
-    pub going-over : D < W → gives none ≡ gives Settles
+    pub going-over : D < W → none ≡ Settles
     unfolding Going
-    going-over l = ap gives (repeated-past (filling T B o top start) D filling-rising Settles W here l)
+    going-over l = repeated-past (filling T B o top start) D filling-rising Settles W here l
 
     module _ (r : ℕ) (next : Reckoned 137438953473 (sumBelow top (λ j. refill T B o j W)) r) where
       sum-is : start + r ≡ filling T B o top start W
       unfolding filling
       sum-is = ap (λ x. start + x) (next .is)
 
-      pub going-still : W ≤ D → start + r ≡ W → gives (some W) ≡ gives Settles
+      pub going-still : W ≤ D → start + r ≡ W → some W ≡ Settles
       unfolding Going
-      going-still l e = ap gives (repeated-still (filling T B o top start) D filling-rising Settles W here l (sym sum-is ∙ e))
+      going-still l e = repeated-still (filling T B o top start) D filling-rising Settles W here l (sym sum-is ∙ e)
 
       pub going-up : (start + r ≡ W → ⊥) → W < start + r
       unfolding Going
@@ -79,9 +78,9 @@ module _ (T B b o : List ℕ) (h w : ℕ) (d : ℕ) (due : Reckoned 131072 (cond
   unfolding deadline active
   due-is = due .is
 
-  pub busy-over : d < w → gives none ≡ gives (busyTest T B b o h w)
+  pub busy-over : d < w → none ≡ busyTest T B b o h w
   unfolding busyTest settle busyStart
-  busy-over l = ap gives (sym (rw (lt-ltb (deadline T b o h) (w + b ! h + sumBelow h (λ j. b ! j)) late)))
+  busy-over l = sym (rw (lt-ltb (deadline T b o h) (w + b ! h + sumBelow h (λ j. b ! j)) late))
     where
       late : deadline T b o h < w + b ! h + sumBelow h (λ j. b ! j)
       late = let same = due-is in omega arith
@@ -106,7 +105,8 @@ module _ (T B b o : List ℕ) (h w : ℕ) (d : ℕ) (due : Reckoned 131072 (cond
     unfolding busyStart
     start-is = let one = own .is in let others = waits .is in omega arith
 
-    pub busy-settled : (top : ℕ) (x : Outcome (Option ℕ)) → top ≡ cond (ltb 0 (b ! h)) h (h + 1) → x ≡ gives (Settles T B o top (w + mine + above) d)
-        → x ≡ gives (busyTest T B b o h w)
+    pub busy-settled : (top : ℕ) (x : Option ℕ) → top ≡ cond (ltb 0 (b ! h)) h (h + 1) → x ≡ Settles T B o top (w + mine + above) d
+        → x ≡ busyTest T B b o h w
     unfolding busyTest
-    busy-settled top x e same = same ∙ ap gives (rw (due-is, start-is) (ap (λ (f : ℕ → ℕ). settle (suc (deadline T b o h)) f (ltb (deadline T b o h)) (busyStart b h w)) (fun-ext (filling-is top e))))
+    busy-settled top x e same =
+        same ∙ rw (due-is, start-is) (ap (λ (f : ℕ → ℕ). settle (suc (deadline T b o h)) f (ltb (deadline T b o h)) (busyStart b h w)) (fun-ext (filling-is top e)))

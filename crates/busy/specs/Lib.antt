@@ -1,4 +1,6 @@
 -- the code's answers, read as 01's numbers and values
 pub mod Answers
+-- what each public function promises
+pub mod Promises
 -- what the inner functions give
 pub mod Inner

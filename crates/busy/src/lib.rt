@@ -1,15 +1,20 @@
 // The busy test, and what it decides: the standing test and admission.
 ghost use mathlib.Core.Path.{_≡_};
-ghost use mathlib.Core.Bool.{cond, _&&_};
+ghost use mathlib.Core.Bool.{cond};
 ghost use Prim.Native.Nat.{suc, _+_, _*_, _<_, _≤_};
 ghost use lib.Dec.{ltb};
 ghost use Rattle.basis.specs.Words.{_!_, sumBelow, settle};
-ghost use Rattle.rules.specs.BusyLength.{arrivals, refill, busyTest, passes};
+ghost use Rattle.rules.specs.BusyLength.{arrivals, refill, busyTest};
 ghost use Rattle.rules.specs.StandingTest.{firstFailing};
 ghost use Rattle.ranges.specs.Outcome.{gives};
 ghost use Rattle.busy.specs.Answers.{testAs, lengthAs};
-ghost use Rattle.busy.specs.Inner.{Reckoned, filling};
-
+ghost use Rattle.busy.specs.Promises.{PassesIs, AdmissionIs, ResponseIs, BusyTestIs, StandingIs};
+ghost use Rattle.busy.specs.Inner.{Reckoned, filling, spanAs};
+use ranges::Verdict;
+use ranges::judge;
+use ranges::judge_index;
+use ranges::judge_state;
+use ranges::judge_table;
 use rules::Refusal;
 use rules::Table;
 
@@ -25,6 +30,12 @@ pub enum Length {
     Within(u64),
     Over,
     Refused(Refusal),
+}
+
+// Where the repetition ends: within the deadline, or past it.
+enum Span {
+    Within(u64),
+    Over,
 }
 
 // What the replenishments before `w` add, of one partition: max(0, ceil((w − o)/T))·B. No division where a comparison decides.
@@ -114,19 +125,19 @@ fn settled<'t, 's>(
     top: usize,
     start: u64,
     deadline: u64,
-) -> Length
+) -> Span
     requires { ⌜ (top ≤ 16) × (start < 2097152) × (deadline < 131072) ⌝ }
-    ensures { λ r. ⌜ lengthAs r ≡ gives (settle (suc deadline) (filling (now (period .entry)) (now (budget .entry)) (now (o .entry)) top start) (ltb deadline) start) ⌝ }
+    ensures { λ r. ⌜ spanAs r ≡ settle (suc deadline) (filling (now (period .entry)) (now (budget .entry)) (now (o .entry)) top start) (ltb deadline) start ⌝ }
 {
     let mut length = start;
     while length <= deadline {
         let sum = start + refills(period, budget, o, top, length);
         if sum == length {
-            return Length::Within(length);
+            return Span::Within(length);
         }
         length = sum;
     }
-    Length::Over
+    Span::Over
 }
 
 // The busy length of `h` with inversion `w`, if it is at most the deadline.
@@ -137,14 +148,115 @@ fn busy<'t, 's>(
     o: &'s [u16; 16],
     h: usize,
     w: u64,
-) -> Length
+) -> Span
     requires { ⌜ h < 16 ⌝ }
-    ensures { λ r. ⌜ lengthAs r ≡ gives (busyTest (now (period .entry)) (now (budget .entry)) (now (b .entry)) (now (o .entry)) h w) ⌝ }
+    ensures { λ r. ⌜ spanAs r ≡ busyTest (now (period .entry)) (now (budget .entry)) (now (b .entry)) (now (o .entry)) h w ⌝ }
 {
     let deadline = due(period[h], b[h], o[h]);
     if w > deadline {
-        return Length::Over;
+        return Span::Over;
     }
     let start = w + wide(b[h]) + waiting(b, h);
     settled(period, budget, o, counted(b[h], h), start, deadline)
+}
+
+// `h` passes with inversion `w`. There is no partition beyond 16, and so none that passes.
+pub fn passes<'t, 's>(
+    period: &'t [u16; 16],
+    budget: &'t [u16; 16],
+    b: &'s [u16; 16],
+    o: &'s [u16; 16],
+    h: usize,
+    w: u64,
+) -> bool
+    ensures { λ r. ⌜ PassesIs (now (period .entry)) (now (budget .entry)) (now (b .entry)) (now (o .entry)) h w r ⌝ }
+{
+    if h >= 16 {
+        return false;
+    }
+    let length = busy(period, budget, b, o, h, w);
+    if let Span::Within(_) = length {
+        return true;
+    }
+    false
+}
+
+// The first partition that fails with w = 0.
+fn first_failing<'t, 's>(
+    n: usize,
+    period: &'t [u16; 16],
+    budget: &'t [u16; 16],
+    b: &'s [u16; 16],
+    o: &'s [u16; 16],
+) -> Test
+    requires { ⌜ n ≤ 16 ⌝ }
+    ensures { λ r. ⌜ testAs r ≡ gives (firstFailing n (now (period .entry)) (now (budget .entry)) (now (b .entry)) (now (o .entry))) ⌝ }
+{
+    for h in 0..n {
+        if !passes(period, budget, b, o, h, 0) {
+            return Test::Fails(h);
+        }
+    }
+    Test::Passes
+}
+
+// The standing test: every partition passes with w = 0, or which is the first that fails. Refusals 1 and 3.
+pub fn standing<'s>(t: Table, b: &'s [u16; 16], o: &'s [u16; 16]) -> Test
+    ensures { λ r. ⌜ StandingIs t (now (b .entry)) (now (o .entry)) r ⌝ }
+{
+    let n = t.count;
+    let judged = judge(n, &t.period, &t.budget, &t.phase, b, o);
+    if let Verdict::Refused(r) = judged {
+        return Test::Refused(r);
+    }
+    first_failing(n, &t.period, &t.budget, b, o)
+}
+
+// Admission: it is the standing test of full budgets, each replenished in a whole period. Refusal 1.
+pub fn admission(t: Table) -> Test
+    ensures { λ r. ⌜ AdmissionIs t r ⌝ }
+{
+    let n = t.count;
+    let judged = judge_table(n, &t.period, &t.budget, &t.phase);
+    if let Verdict::Refused(r) = judged {
+        return Test::Refused(r);
+    }
+    first_failing(n, &t.period, &t.budget, &t.budget, &t.period)
+}
+
+// A span as an answer.
+fn answer(span: Span) -> Length
+    ensures { λ r. ⌜ lengthAs r ≡ gives (spanAs span) ⌝ }
+{
+    let Span::Within(w) = span else {
+        return Length::Over;
+    };
+    Length::Within(w)
+}
+
+// R of partition `h`, where R is at most its period. Refusal 1.
+pub fn response(t: Table, h: usize) -> Length
+    ensures { λ r. ⌜ ResponseIs t h r ⌝ }
+{
+    let judged = judge_index(t.count, &t.period, &t.budget, &t.phase, h);
+    if let Verdict::Refused(r) = judged {
+        return Length::Refused(r);
+    }
+    answer(busy(&t.period, &t.budget, &t.budget, &t.period, h, 0))
+}
+
+// The busy test of partition `h` with inversion `w`: its length, or that it fails. Refusals 1 and 3.
+pub fn busy_test<'s>(t: Table, b: &'s [u16; 16], o: &'s [u16; 16], h: usize, w: u32) -> Length
+    ensures { λ r. ⌜ BusyTestIs t (now (b .entry)) (now (o .entry)) h w r ⌝ }
+{
+    let n = t.count;
+    let table = judge_index(n, &t.period, &t.budget, &t.phase, h);
+    if let Verdict::Refused(r) = table {
+        return Length::Refused(r);
+    }
+    let state = judge_state(n, &t.period, &t.budget, b, o);
+    if let Verdict::Refused(r) = state {
+        return Length::Refused(r);
+    }
+    answer(busy(&t.period, &t.budget, b, o, h, w as u64))
 }

@@ -8,14 +8,14 @@ use borrow.Author.Tests.{ltb-true}
 use lib.Dec.{ltb}
 use Rattle.basis.specs.Words.{orElse, unless}
 use Rattle.rules.specs.Numbers.{firstBadPartition, TableInRange, firstBadPair}
-use Rattle.rules.specs.Refusals.{Refused, refusedAs, Ground, badTable, badTableOrIndex, badState, refusal, unlessBefore}
+use Rattle.rules.specs.Refusals.{Refused, refusedAs, Ground, ground, badTable, badTableOrIndex, badState, refusal, unlessBefore}
 use Rattle.rules.specs.declared.Refusal.{Refusal}
 use Rattle.laws.proofs.Tests.{some-is-none}
 use Rattle.ranges.specs.Outcome.{Outcome, refused, gives, unlessRefused}
 use Rattle.ranges.specs.Verdicts.{verdictAs}
 use Rattle.ranges.specs.declared.Verdict.{Verdict}
 use Rattle.ranges.specs.declared.Verdict.the-variants as verdict
-use Rattle.ranges.proofs.Verdicts.{verdict-refused, verdict-good}
+use Rattle.ranges.proofs.Verdicts.{verdict-refused, verdict-good, table-first, then-state}
 
 module _ {A : Type 0} (x : A) (gs : List Ground) where
   -- a refusal is handed on
@@ -27,6 +27,24 @@ module _ {A : Type 0} (x : A) (gs : List Ground) where
   pub not-refused : (v : Verdict) → verdictAs v ≡ refusal gs → v ≡ verdict.Good → unlessRefused (refusal gs) x ≡ gives x
   unfolding unlessRefused
   not-refused v e d = rw (sym e ∙ verdict-good v d)
+
+  pub answers : (answer : Outcome A) (v : Verdict) → verdictAs v ≡ refusal gs → v ≡ verdict.Good → answer ≡ gives x → answer ≡ unlessRefused (refusal gs) x
+  answers answer v e d same = same ∙ sym (not-refused v e d)
+
+-- two verdicts, one after the other
+module _ {A : Type 0} (answer : A) (x y : Option ℕ) (v : Verdict) (e : verdictAs v ≡ refusal (ground 1 x ∷ [])) where
+  pub hands-on-first : (r : Refusal) → v ≡ verdict.Refused r → refused (refusedAs r) ≡ unlessRefused (refusal (ground 1 x ∷ ground 3 y ∷ [])) answer
+  unfolding unlessRefused
+  hands-on-first r d = rw (table-first x y (refusedAs r) (sym e ∙ verdict-refused v r d))
+
+  module _ (d : v ≡ verdict.Good) (s : Verdict) (f : verdictAs s ≡ refusal (ground 3 y ∷ [])) where
+    pub hands-on-second : (r : Refusal) → s ≡ verdict.Refused r → refused (refusedAs r) ≡ unlessRefused (refusal (ground 1 x ∷ ground 3 y ∷ [])) answer
+    unfolding unlessRefused
+    hands-on-second r g = rw (then-state x y (sym e ∙ verdict-good v d), sym f ∙ verdict-refused s r g)
+
+    pub answers-second : (said : Outcome A) → s ≡ verdict.Good → said ≡ gives answer → said ≡ unlessRefused (refusal (ground 1 x ∷ ground 3 y ∷ [])) answer
+    unfolding unlessRefused
+    answers-second said g same = same ∙ sym (rw (then-state x y (sym e ∙ verdict-good v d), sym f ∙ verdict-good s g))
 
 none-before : (number : ℕ) (x : Option ℕ) (later : Option Refused) → unlessBefore number x later ≡ none → x ≡ none
 none-before number (some second) later e = some-is-none e

@@ -6,7 +6,7 @@ use mathlib.Core.Option.{Option, some, none}
 use borrow.Author.Tests.{lt-ltb, le-ltb}
 use Rattle.basis.specs.Words.{orElse}
 use Rattle.rules.specs.Numbers.{firstBadPartition}
-use Rattle.rules.specs.Refusals.{Refused, refusedAs, badTable, badTableOrIndex, badState, refusal, unlessBefore}
+use Rattle.rules.specs.Refusals.{Refused, refusedAs, ground, badTable, badTableOrIndex, refusal, unlessBefore}
 use Rattle.rules.specs.declared.Refusal.{Refusal}
 use Rattle.rules.specs.declared.Refusal.the-variants.{BadPartition}
 use Rattle.laws.proofs.Tests.{none-is-some, some-is-none}
@@ -32,22 +32,22 @@ module _ (number : ℕ) (later : Option Refused) where
   nothing-before (some second) e = some-is-none e
   nothing-before none e = refl
 
--- the table is judged before the state
-module _ (n : ℕ) (T B phase b o : List ℕ) where
-  pub table-first : (r : Refused) → refusal (badTable n T B phase ∷ []) ≡ some r → refusal (badTable n T B phase ∷ badState n T B b o ∷ []) ≡ some r
+-- refusal 1, for whatever ground, comes before 3
+module _ (x y : Option ℕ) where
+  pub table-first : (r : Refused) → refusal (ground 1 x ∷ []) ≡ some r → refusal (ground 1 x ∷ ground 3 y ∷ []) ≡ some r
   unfolding refusal
-  table-first r e = refused-before 1 _ (firstBadPartition n T B phase) r e
+  table-first r e = refused-before 1 _ x r e
 
-  pub then-state : refusal (badTable n T B phase ∷ []) ≡ none → refusal (badTable n T B phase ∷ badState n T B b o ∷ []) ≡ refusal (badState n T B b o ∷ [])
+  pub then-state : refusal (ground 1 x ∷ []) ≡ none → refusal (ground 1 x ∷ ground 3 y ∷ []) ≡ refusal (ground 3 y ∷ [])
   unfolding refusal
-  then-state e = nothing-before 1 _ (firstBadPartition n T B phase) e
+  then-state e = nothing-before 1 _ x e
 
-  pub judged-table : (v : Verdict) (r : Refusal) → verdictAs v ≡ refusal (badTable n T B phase ∷ []) → v ≡ verdict.Refused r
-      → verdictAs (verdict.Refused r) ≡ refusal (badTable n T B phase ∷ badState n T B b o ∷ [])
+  pub judged-table : (v : Verdict) (r : Refusal) → verdictAs v ≡ refusal (ground 1 x ∷ []) → v ≡ verdict.Refused r
+      → verdictAs (verdict.Refused r) ≡ refusal (ground 1 x ∷ ground 3 y ∷ [])
   judged-table v r e d = verdict-refused (verdict.Refused r) r refl ∙ sym (table-first (refusedAs r) (sym e ∙ verdict-refused v r d))
 
-  pub judged-state : (v next : Verdict) → verdictAs v ≡ refusal (badTable n T B phase ∷ []) → v ≡ verdict.Good → verdictAs next ≡ refusal (badState n T B b o ∷ [])
-      → verdictAs next ≡ refusal (badTable n T B phase ∷ badState n T B b o ∷ [])
+  pub judged-state : (v next : Verdict) → verdictAs v ≡ refusal (ground 1 x ∷ []) → v ≡ verdict.Good → verdictAs next ≡ refusal (ground 3 y ∷ [])
+      → verdictAs next ≡ refusal (ground 1 x ∷ ground 3 y ∷ [])
   judged-state v next e d f = f ∙ sym (then-state (sym e ∙ verdict-good v d))
 
 -- a partition that isn't there comes after the fields

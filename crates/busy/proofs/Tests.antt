@@ -1,0 +1,131 @@
+-- From a busy length to a pass, to the first that fails, to admission and to one partition's R.
+use Prim.Native.Nat.{ℕ, suc, _+_, _≤_, _<_}
+use mathlib.Core.Path.{_≡_, refl, sym, _∙_, ap, subst}
+use mathlib.Core.Bool.{Bool, true, false, not, _&&_}
+use mathlib.Core.List.{List, [], _∷_}
+use mathlib.Core.Option.{Option, some, none}
+use native.Mathlib.Nat.{le-antisymm}
+use native.Mathlib.Omega.{arith}
+use borrow.Author.Tests.{lt-ltb, le-ltb}
+use lib.Dec.{ltb}
+use Rattle.basis.specs.Words.{_!_, first, found}
+use Rattle.rules.specs.Numbers.{TableInRange, mostPartitions}
+use Rattle.rules.specs.Admission.{responseWithin, firstUnadmitted}
+use Rattle.rules.specs.BusyLength.{busyTest, passes}
+use Rattle.rules.specs.StandingTest.{firstFailing}
+use Rattle.rules.specs.Refusals.{ground, badTable, badTableOrIndex, badState, refusal}
+use Rattle.laws.proofs.Places.{first-next, first-here, first-same}
+use Rattle.laws.proofs.Numbers.{table-good}
+use Rattle.laws.proofs.Admission.{admission-is-busy}
+use Rattle.ranges.specs.Outcome.{Outcome, gives, unlessRefused}
+use Rattle.ranges.specs.Verdicts.{verdictAs}
+use Rattle.ranges.specs.declared.Verdict.{Verdict}
+use Rattle.ranges.specs.declared.Verdict.the-variants.{Good}
+use Rattle.ranges.proofs.Outcomes.{not-refused, answers-second, table-in-range, indexed-table, indexed-there, judged-table-good}
+use Rattle.busy.specs.Inner.{spanAs}
+use Rattle.busy.specs.Promises.{PassesIs}
+use Rattle.busy.specs.declared.Span.{Span}
+use Rattle.busy.specs.declared.Span.the-variants.{Within, Over}
+
+-- ---- a pass
+module _ (T B b o : List ℕ) (h w : ℕ) where
+  pub not-there : 16 ≤ h → PassesIs T B b o h w false
+  not-there l = sym (rw (le-ltb h 16 l))
+
+  there : (r : Bool) → h < 16 → r ≡ passes T B b o h w → PassesIs T B b o h w r
+  there r l e = rw (lt-ltb h 16 l) e
+
+  pub ends-within : (x : Span) (W : ℕ) → h < 16 → spanAs x ≡ busyTest T B b o h w → x ≡ Within W → PassesIs T B b o h w true
+  unfolding passes
+  ends-within x W l e d = there true l (sym (ap found (sym e ∙ ap spanAs d)))
+
+  pub ends-over : (x : Span) → h < 16 → spanAs x ≡ busyTest T B b o h w → x ≡ Over → PassesIs T B b o h w false
+  unfolding passes
+  ends-over x l e d = there false l (sym (ap found (sym e ∙ ap spanAs d)))
+
+-- ---- the first that fails
+module _ (n : ℕ) (T B b o : List ℕ) where
+  failing : ℕ → Bool
+  failing h = not (passes T B b o h 0)
+
+  -- none above h fails
+  pub StandsUpTo : ℕ → Type 0
+  StandsUpTo h = first h failing ≡ none
+
+  pub stands-begins : StandsUpTo 0
+  unfolding StandsUpTo first
+  stands-begins = refl
+
+  module _ (few : n ≤ 16) where
+    tested : (h : ℕ) (r t : Bool) → h < n → PassesIs T B b o h 0 r → not r ≡ t → failing h ≡ t
+    unfolding failing
+    tested h r t l e off = ap not (sym e′) ∙ off
+      where
+        e′ : r ≡ passes T B b o h 0
+        e′ = e ∙ ap (λ (a : Bool). a && passes T B b o h 0) (lt-ltb h 16 (omega arith))
+
+    pub stands-goes-on : (h : ℕ) (r : Bool) → StandsUpTo h → h < n → PassesIs T B b o h 0 r → not r ≡ false → StandsUpTo (h + 1)
+    unfolding StandsUpTo
+    stands-goes-on h r before l e on = first-next h failing before (tested h r false l e on)
+
+    pub first-fails : (h : ℕ) (r : Bool) → StandsUpTo h → h < n → PassesIs T B b o h 0 r → not r ≡ true → gives (some h) ≡ gives (firstFailing n T B b o)
+    unfolding StandsUpTo firstFailing failing
+    first-fails h r before l e off = ap gives (sym (first-here h n failing before l (tested h r true l e off)))
+
+  pub none-fails : (h : ℕ) → StandsUpTo h → n ≤ h → h ≤ n → gives none ≡ gives (firstFailing n T B b o)
+  unfolding StandsUpTo firstFailing failing
+  none-fails h before l k = ap gives (sym (subst (λ (m : ℕ). first m failing ≡ none) (le-antisymm k l) before))
+
+-- ---- what a good verdict spares
+pub few-partitions : (n : ℕ) (T B phase : List ℕ) → TableInRange n T B phase → n ≤ 16
+few-partitions n T B phase t = table-good n T B phase t .not-many
+
+module _ (n : ℕ) (T B phase : List ℕ) where
+  pub few-of-table : (v : Verdict) → verdictAs v ≡ refusal (badTable n T B phase ∷ []) → v ≡ Good → n ≤ 16
+  few-of-table v e d = few-partitions n T B phase (table-in-range n T B phase v e d)
+
+  pub few-of-state : (b o : List ℕ) (v : Verdict) → verdictAs v ≡ refusal (badTable n T B phase ∷ badState n T B b o ∷ []) → v ≡ Good → n ≤ 16
+  few-of-state b o v e d = few-partitions n T B phase (judged-table-good n T B phase b o v e d)
+
+  pub index-small : (h : ℕ) (v : Verdict) → verdictAs v ≡ refusal (badTableOrIndex n T B phase h ∷ []) → v ≡ Good → h < 16
+  index-small h v e d =
+      let few = few-partitions n T B phase (indexed-table n T B phase h v e d) in
+      let here = indexed-there n T B phase h v e d in
+      omega arith
+
+  -- ---- admission is the standing test of full budgets
+  in-range-response : TableInRange n T B phase → (h : ℕ) → h < n → busyTest T B B T h 0 ≡ responseWithin T B h
+  in-range-response t h l =
+      let table = table-good n T B phase t in
+      admission-is-busy T B h (table .each h l .budget) (λ j k. table .each j (omega arith) .period)
+
+  admission-stands : TableInRange n T B phase → firstFailing n T B B T ≡ firstUnadmitted n T B
+  unfolding firstFailing firstUnadmitted passes
+  admission-stands t = first-same n _ _ (λ h l. ap (λ (x : Option ℕ). not (found x)) (in-range-response t h l))
+
+  pub admits : (answer : Outcome (Option ℕ)) (v : Verdict) → verdictAs v ≡ refusal (badTable n T B phase ∷ []) → v ≡ Good → answer ≡ gives (firstFailing n T B B T)
+      → answer ≡ unlessRefused (refusal (badTable n T B phase ∷ [])) (firstUnadmitted n T B)
+  admits answer v e d same =
+      same ∙ ap gives (admission-stands (table-in-range n T B phase v e d)) ∙ sym (not-refused (firstUnadmitted n T B) _ v e d)
+
+  -- ---- and R is that test's length
+  pub responds : (h : ℕ) (answer : Outcome (Option ℕ)) (x : Span) (v : Verdict) → verdictAs v ≡ refusal (badTableOrIndex n T B phase h ∷ []) → v ≡ Good
+      → spanAs x ≡ busyTest T B B T h 0 → answer ≡ gives (spanAs x)
+      → answer ≡ unlessRefused (refusal (badTableOrIndex n T B phase h ∷ [])) (responseWithin T B h)
+  responds h answer x v e d length same =
+      same
+      ∙ ap gives (length ∙ in-range-response (indexed-table n T B phase h v e d) h (indexed-there n T B phase h v e d))
+      ∙ sym (not-refused (responseWithin T B h) _ v e d)
+
+-- a span as an answer
+pub answered-within : (x : Span) (W : ℕ) → x ≡ Within W → gives (some W) ≡ gives (spanAs x)
+answered-within x W e = ap (λ (s : Span). gives (spanAs s)) (sym e)
+
+pub answered-over : (x : Span) → x ≡ Over → gives none ≡ gives (spanAs x)
+answered-over x e = ap (λ (s : Span). gives (spanAs s)) (sym e)
+
+pub busy-answers : (T B b o : List ℕ) (h w : ℕ) (x y : Option ℕ) (v s : Verdict) → verdictAs v ≡ refusal (ground 1 x ∷ []) → v ≡ Good → verdictAs s ≡ refusal (ground 3 y ∷ []) → s ≡ Good
+    → (answer : Outcome (Option ℕ)) (span : Span) → spanAs span ≡ busyTest T B b o h w → answer ≡ gives (spanAs span)
+    → answer ≡ unlessRefused (refusal (ground 1 x ∷ ground 3 y ∷ [])) (busyTest T B b o h w)
+busy-answers T B b o h w x y v s e d f g answer span length same =
+    answers-second (busyTest T B b o h w) x y v e d s f answer g (same ∙ ap gives length)

@@ -1,0 +1,34 @@
+use borrow.Author.Needs.{needs}
+use Rattle.ranges.proofs.Outcomes.{hands-on}
+use Rattle.busy.proofs.Tests.{few-of-table, admits}
+use Rattle.busy.proofs.admission.Statement.{statement}
+use Rattle.busy.proofs.admission.Tie as tie
+
+judge-table-requires : tie.Need-judge-table-requires
+judge-table-requires c κs = search needs
+
+enum-known-judged : tie.Need-enum-known-judged
+enum-known-judged c = search needs
+
+returns : tie.Need-returns
+returns c = search (needs, hands-on, c .before .judged .given .1)
+
+enum-told : tie.Need-enum-told
+enum-told c = search needs
+
+first-failing-requires : tie.Need-first-failing-requires
+first-failing-requires c κs = search (needs, few-of-table, c .before .before .before .before .before .enum-told .given .1)
+
+returns-2 : tie.Need-returns-2
+returns-2 c = search (needs, admits, c .before .before .before .before .before .before .enum-told .given .1)
+
+pub admission-spec : {M : Type 1} → statement M
+admission-spec =
+    tie.close
+    (tie.spec
+    judge-table-requires
+    enum-known-judged
+    returns
+    enum-told
+    first-failing-requires
+    returns-2)

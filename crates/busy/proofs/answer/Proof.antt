@@ -1,0 +1,19 @@
+use borrow.Author.Needs.{needs}
+use Rattle.busy.proofs.Tests.{answered-within, answered-over}
+use Rattle.busy.proofs.answer.Statement.{statement}
+use Rattle.busy.proofs.answer.Tie as tie
+
+enum-known-span : tie.Need-enum-known-span
+enum-known-span c = search needs
+
+enum-told : tie.Need-enum-told
+enum-told c = search needs
+
+returns : tie.Need-returns
+returns c = search (needs, answered-over, c .enum-told .given .1)
+
+returns-2 : tie.Need-returns-2
+returns-2 c = search (needs, answered-within, c .before .span .given .1)
+
+pub answer-spec : {M : Type 1} → statement M
+answer-spec = tie.close (tie.spec enum-known-span enum-told returns returns-2)

@@ -1,0 +1,54 @@
+use borrow.Author.Needs.{needs}
+use Rattle.ranges.proofs.Outcomes.{hands-on-first, hands-on-second}
+use Rattle.busy.proofs.Tests.{index-small, busy-answers}
+use Rattle.busy.proofs.busy_test.Statement.{statement}
+use Rattle.busy.proofs.busy_test.Tie as tie
+
+judge-index-requires : tie.Need-judge-index-requires
+judge-index-requires c κs = search needs
+
+enum-known-table : tie.Need-enum-known-table
+enum-known-table c = search needs
+
+returns : tie.Need-returns
+returns c = search (needs, hands-on-first, c .before .table .given .1)
+
+enum-told : tie.Need-enum-told
+enum-told c = search needs
+
+judge-state-requires : tie.Need-judge-state-requires
+judge-state-requires c κs = search needs
+
+enum-known-state : tie.Need-enum-known-state
+enum-known-state c = search needs
+
+returns-2 : tie.Need-returns-2
+returns-2 c = search (needs, hands-on-second, c .before .state .given .1, c .before .before .before .before .before .before .before .enum-told .given .1)
+
+enum-told-2 : tie.Need-enum-told-2
+enum-told-2 c = search needs
+
+busy-requires : tie.Need-busy-requires
+busy-requires c κs = search (needs, index-small, c .before .before .before .before .before .before .before .before .before .enum-told .given .1)
+
+answer-requires : tie.Need-answer-requires
+answer-requires c κs = search needs
+
+returns-3 : tie.Need-returns-3
+returns-3 c = search (needs, busy-answers, c .before .before .before .before .before .enum-told2 .given .1, c .before .before .before .before .before .before .before .before .before .before .before .enum-told .given .1)
+
+pub busy-test-spec : {M : Type 1} → statement M
+busy-test-spec =
+    tie.close
+    (tie.spec
+    judge-index-requires
+    enum-known-table
+    returns
+    enum-told
+    judge-state-requires
+    enum-known-state
+    returns-2
+    enum-told-2
+    busy-requires
+    answer-requires
+    returns-3)

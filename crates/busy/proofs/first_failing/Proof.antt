@@ -1,0 +1,46 @@
+use Prim.Native.Nat.{_-_, _≤_}
+use borrow.Author.Needs.{needs}
+use Rattle.busy.proofs.Tests.{StandsUpTo, stands-begins, stands-goes-on, first-fails, none-fails}
+use Rattle.busy.proofs.first_failing.Statement.{statement}
+use Rattle.busy.proofs.first_failing.Tie as tie
+
+abbrev Inv-loop : tie.InvT-loop
+Inv-loop n period budget b o h₀ h = (h ≤ n) × StandsUpTo n period budget b o h
+
+abbrev μ-loop : tie.MeasureT-loop
+μ-loop n period budget b o h₀ h = n - h
+
+loop-holds : tie.Need-loop-holds Inv-loop μ-loop
+loop-holds c = search (needs, stands-begins)
+
+passes-requires : tie.Need-passes-requires Inv-loop μ-loop
+passes-requires c κs = search needs
+
+returns : tie.Need-returns Inv-loop μ-loop
+returns c = search (needs, first-fails)
+
+add-h : tie.Need-add-h Inv-loop μ-loop
+add-h c = search needs
+
+loop-less : tie.Need-loop-less Inv-loop μ-loop
+loop-less c = search needs
+
+loop-again : tie.Need-loop-again Inv-loop μ-loop
+loop-again c = search (needs, stands-goes-on)
+
+returns-2 : tie.Need-returns-2 Inv-loop μ-loop
+returns-2 c = search (needs, none-fails)
+
+pub first-failing-spec : {M : Type 1} → statement M
+first-failing-spec =
+    tie.close
+    (tie.spec
+    Inv-loop
+    μ-loop
+    loop-holds
+    passes-requires
+    returns
+    add-h
+    loop-less
+    loop-again
+    returns-2)

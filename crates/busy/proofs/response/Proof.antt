@@ -1,0 +1,38 @@
+use borrow.Author.Needs.{needs}
+use Rattle.ranges.proofs.Outcomes.{hands-on}
+use Rattle.busy.proofs.Tests.{index-small, responds}
+use Rattle.busy.proofs.response.Statement.{statement}
+use Rattle.busy.proofs.response.Tie as tie
+
+judge-index-requires : tie.Need-judge-index-requires
+judge-index-requires c κs = search needs
+
+enum-known-judged : tie.Need-enum-known-judged
+enum-known-judged c = search needs
+
+returns : tie.Need-returns
+returns c = search (needs, hands-on, c .before .judged .given .1)
+
+enum-told : tie.Need-enum-told
+enum-told c = search needs
+
+busy-requires : tie.Need-busy-requires
+busy-requires c κs = search (needs, index-small, c .before .before .before .before .before .enum-told .given .1)
+
+answer-requires : tie.Need-answer-requires
+answer-requires c κs = search needs
+
+returns-2 : tie.Need-returns-2
+returns-2 c = search (needs, responds, c .before .before .before .before .before .before .before .enum-told .given .1)
+
+pub response-spec : {M : Type 1} → statement M
+response-spec =
+    tie.close
+    (tie.spec
+    judge-index-requires
+    enum-known-judged
+    returns
+    enum-told
+    busy-requires
+    answer-requires
+    returns-2)

@@ -1,0 +1,28 @@
+use borrow.Author.Needs.{needs}
+use Rattle.ranges.proofs.Outcomes.{hands-on, answers}
+use Rattle.busy.proofs.Tests.{few-of-state}
+use Rattle.busy.proofs.standing.Statement.{statement}
+use Rattle.busy.proofs.standing.Tie as tie
+
+judge-requires : tie.Need-judge-requires
+judge-requires c κs = search needs
+
+enum-known-judged : tie.Need-enum-known-judged
+enum-known-judged c = search needs
+
+returns : tie.Need-returns
+returns c = search (needs, hands-on, c .before .judged .given .1)
+
+enum-told : tie.Need-enum-told
+enum-told c = search needs
+
+first-failing-requires : tie.Need-first-failing-requires
+first-failing-requires c κs = search (needs, few-of-state, c .before .before .before .enum-told .given .1)
+
+returns-2 : tie.Need-returns-2
+returns-2 c = search (needs, answers, c .before .before .before .before .enum-told .given .1)
+
+pub standing-spec : {M : Type 1} → statement M
+standing-spec =
+    tie.close
+    (tie.spec judge-requires enum-known-judged returns enum-told first-failing-requires returns-2)
