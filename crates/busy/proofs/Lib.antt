@@ -4,5 +4,5 @@ pub mod Sums
 pub mod Refill
 -- the repetition
 pub mod Repetition
--- from a busy length to what it decides
-pub mod Tests
+-- from a busy length to a pass
+pub mod Ends

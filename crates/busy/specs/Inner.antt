@@ -2,11 +2,8 @@
 use Prim.Native.Nat.{ℕ, _+_, _<_}
 use mathlib.Core.Path.{_≡_}
 use mathlib.Core.List.{List}
-use mathlib.Core.Option.{Option, some, none}
 use Rattle.basis.specs.Words.{sumBelow}
 use Rattle.rules.specs.BusyLength.{refill}
-use Rattle.busy.specs.declared.Span.{Span}
-use Rattle.busy.specs.declared.Span.the-variants.{Within, Over}
 
 -- r is x, and below a limit that no sum of a few such numbers takes past 64 bits
 pub record Reckoned (limit x r : ℕ) : Type 0 where
@@ -16,8 +13,3 @@ pub record Reckoned (limit x r : ℕ) : Type 0 where
 -- a start, and the refills of the first `top` partitions: what the repetition adds up in each round
 unfoldable pub filling : List ℕ → List ℕ → List ℕ → ℕ → ℕ → ℕ → ℕ
 filling T B o top start W = start + sumBelow top (λ j. refill T B o j W)
-
--- the repetition's end: so many ticks, or none within the deadline
-abbrev pub spanAs : Span → Option ℕ
-spanAs (Within W) = some W
-spanAs Over = none

@@ -1,5 +1,5 @@
--- the code's answers, read as 01's numbers and values
-pub mod Answers
+-- where the repetition ends
+pub mod Spans
 -- what each public function promises
 pub mod Promises
 -- what the inner functions give

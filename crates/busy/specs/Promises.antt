@@ -1,44 +1,17 @@
--- What each public function of this crate promises of its answer r: the rule, or 01's refusal.
+-- What each public function of this crate promises of its answer r: the rule, and nothing beyond the sixteen places.
 use Prim.Native.Nat.{ℕ}
 use mathlib.Core.Path.{_≡_}
-use mathlib.Core.Bool.{Bool, _&&_}
-use mathlib.Core.List.{List, [], _∷_}
+use mathlib.Core.Bool.{Bool, cond, _&&_}
+use mathlib.Core.List.{List}
+use mathlib.Core.Option.{none}
 use lib.Dec.{ltb}
 use Rattle.rules.specs.Numbers.{mostPartitions}
-use Rattle.rules.specs.Admission.{responseWithin, firstUnadmitted}
 use Rattle.rules.specs.BusyLength.{busyTest, passes}
-use Rattle.rules.specs.StandingTest.{firstFailing}
-use Rattle.rules.specs.Refusals.{badTable, badTableOrIndex, badState, refusal}
-use Rattle.rules.specs.declared.Table.{Table}
-use Rattle.ranges.specs.Outcome.{unlessRefused}
-use Rattle.busy.specs.Answers.{testAs, lengthAs}
-use Rattle.busy.specs.declared.Test.{Test}
-use Rattle.busy.specs.declared.Length.{Length}
+use Rattle.busy.specs.Spans.{spanAs}
+use Rattle.busy.specs.declared.Span.{Span}
 
--- a partition passes; and none beyond the sixteen places does
+abbrev pub BusyLengthIs : List ℕ → List ℕ → List ℕ → List ℕ → ℕ → ℕ → Span → Type 0
+BusyLengthIs T B b o h w r = spanAs r ≡ cond (ltb h mostPartitions) (busyTest T B b o h w) none
+
 abbrev pub PassesIs : List ℕ → List ℕ → List ℕ → List ℕ → ℕ → ℕ → Bool → Type 0
 PassesIs T B b o h w r = r ≡ (ltb h mostPartitions && passes T B b o h w)
-
--- admission of a table: refusal 1
-abbrev pub AdmissionIs : Table → Test → Type 0
-AdmissionIs t r =
-    testAs r ≡ unlessRefused (refusal (badTable (t .count) (t .period) (t .budget) (t .phase) ∷ []))
-    (firstUnadmitted (t .count) (t .period) (t .budget))
-
--- R of partition h, where it is at most T_h: refusal 1, also for an h that isn't there
-abbrev pub ResponseIs : Table → ℕ → Length → Type 0
-ResponseIs t h r =
-    lengthAs r ≡ unlessRefused (refusal (badTableOrIndex (t .count) (t .period) (t .budget) (t .phase) h ∷ []))
-    (responseWithin (t .period) (t .budget) h)
-
--- the busy test of partition h with inversion w: refusals 1, also for an h that isn't there, and 3
-abbrev pub BusyTestIs : Table → List ℕ → List ℕ → ℕ → ℕ → Length → Type 0
-BusyTestIs t b o h w r =
-    lengthAs r ≡ unlessRefused (refusal (badTableOrIndex (t .count) (t .period) (t .budget) (t .phase) h ∷ badState (t .count) (t .period) (t .budget) b o ∷ []))
-    (busyTest (t .period) (t .budget) b o h w)
-
--- the standing test: refusals 1 and 3
-abbrev pub StandingIs : Table → List ℕ → List ℕ → Test → Type 0
-StandingIs t b o r =
-    testAs r ≡ unlessRefused (refusal (badTable (t .count) (t .period) (t .budget) (t .phase) ∷ badState (t .count) (t .period) (t .budget) b o ∷ []))
-    (firstFailing (t .count) (t .period) (t .budget) b o)

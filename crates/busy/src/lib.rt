@@ -1,39 +1,16 @@
-// The busy test, and what it decides: the standing test and admission.
+// The busy engine: how long a partition's work and all above it take, and whether that is within its deadline.
 ghost use mathlib.Core.Path.{_≡_};
 ghost use mathlib.Core.Bool.{cond};
 ghost use Prim.Native.Nat.{suc, _+_, _*_, _<_, _≤_};
 ghost use lib.Dec.{ltb};
 ghost use Rattle.basis.specs.Words.{_!_, sumBelow, settle};
 ghost use Rattle.rules.specs.BusyLength.{arrivals, refill, busyTest};
-ghost use Rattle.rules.specs.StandingTest.{firstFailing};
-ghost use Rattle.ranges.specs.Outcome.{gives};
-ghost use Rattle.busy.specs.Answers.{testAs, lengthAs};
-ghost use Rattle.busy.specs.Promises.{PassesIs, AdmissionIs, ResponseIs, BusyTestIs, StandingIs};
-ghost use Rattle.busy.specs.Inner.{Reckoned, filling, spanAs};
-use ranges::Verdict;
-use ranges::judge;
-use ranges::judge_index;
-use ranges::judge_state;
-use ranges::judge_table;
-use rules::Refusal;
-use rules::Table;
+ghost use Rattle.busy.specs.Promises.{BusyLengthIs, PassesIs};
+ghost use Rattle.busy.specs.Inner.{Reckoned, filling};
+ghost use Rattle.busy.specs.Spans.{spanAs};
 
-// Whether all partitions pass, or which is the first that fails.
-pub enum Test {
-    Passes,
-    Fails(usize),
-    Refused(Refusal),
-}
-
-// A length of time in ticks that is within its deadline, or that it is over.
-pub enum Length {
-    Within(u64),
-    Over,
-    Refused(Refusal),
-}
-
-// Where the repetition ends: within the deadline, or past it.
-enum Span {
+// Where the repetition ends: within the deadline, after so many ticks, or past it.
+pub enum Span {
     Within(u64),
     Over,
 }
@@ -160,7 +137,24 @@ fn busy<'t, 's>(
     settled(period, budget, o, counted(b[h], h), start, deadline)
 }
 
-// `h` passes with inversion `w`. There is no partition beyond 16, and so none that passes.
+// The busy length of `h` with inversion `w`, if it is at most the deadline. No partition is beyond the 16 places, and none there has one.
+pub fn busy_length<'t, 's>(
+    period: &'t [u16; 16],
+    budget: &'t [u16; 16],
+    b: &'s [u16; 16],
+    o: &'s [u16; 16],
+    h: usize,
+    w: u64,
+) -> Span
+    ensures { λ r. ⌜ BusyLengthIs (now (period .entry)) (now (budget .entry)) (now (b .entry)) (now (o .entry)) h w r ⌝ }
+{
+    if h >= 16 {
+        return Span::Over;
+    }
+    busy(period, budget, b, o, h, w)
+}
+
+// `h` passes with inversion `w`.
 pub fn passes<'t, 's>(
     period: &'t [u16; 16],
     budget: &'t [u16; 16],
@@ -171,92 +165,9 @@ pub fn passes<'t, 's>(
 ) -> bool
     ensures { λ r. ⌜ PassesIs (now (period .entry)) (now (budget .entry)) (now (b .entry)) (now (o .entry)) h w r ⌝ }
 {
-    if h >= 16 {
-        return false;
-    }
-    let length = busy(period, budget, b, o, h, w);
+    let length = busy_length(period, budget, b, o, h, w);
     if let Span::Within(_) = length {
         return true;
     }
     false
-}
-
-// The first partition that fails with w = 0.
-fn first_failing<'t, 's>(
-    n: usize,
-    period: &'t [u16; 16],
-    budget: &'t [u16; 16],
-    b: &'s [u16; 16],
-    o: &'s [u16; 16],
-) -> Test
-    requires { ⌜ n ≤ 16 ⌝ }
-    ensures { λ r. ⌜ testAs r ≡ gives (firstFailing n (now (period .entry)) (now (budget .entry)) (now (b .entry)) (now (o .entry))) ⌝ }
-{
-    for h in 0..n {
-        if !passes(period, budget, b, o, h, 0) {
-            return Test::Fails(h);
-        }
-    }
-    Test::Passes
-}
-
-// The standing test: every partition passes with w = 0, or which is the first that fails. Refusals 1 and 3.
-pub fn standing<'s>(t: Table, b: &'s [u16; 16], o: &'s [u16; 16]) -> Test
-    ensures { λ r. ⌜ StandingIs t (now (b .entry)) (now (o .entry)) r ⌝ }
-{
-    let n = t.count;
-    let judged = judge(n, &t.period, &t.budget, &t.phase, b, o);
-    if let Verdict::Refused(r) = judged {
-        return Test::Refused(r);
-    }
-    first_failing(n, &t.period, &t.budget, b, o)
-}
-
-// Admission: it is the standing test of full budgets, each replenished in a whole period. Refusal 1.
-pub fn admission(t: Table) -> Test
-    ensures { λ r. ⌜ AdmissionIs t r ⌝ }
-{
-    let n = t.count;
-    let judged = judge_table(n, &t.period, &t.budget, &t.phase);
-    if let Verdict::Refused(r) = judged {
-        return Test::Refused(r);
-    }
-    first_failing(n, &t.period, &t.budget, &t.budget, &t.period)
-}
-
-// A span as an answer.
-fn answer(span: Span) -> Length
-    ensures { λ r. ⌜ lengthAs r ≡ gives (spanAs span) ⌝ }
-{
-    let Span::Within(w) = span else {
-        return Length::Over;
-    };
-    Length::Within(w)
-}
-
-// R of partition `h`, where R is at most its period. Refusal 1.
-pub fn response(t: Table, h: usize) -> Length
-    ensures { λ r. ⌜ ResponseIs t h r ⌝ }
-{
-    let judged = judge_index(t.count, &t.period, &t.budget, &t.phase, h);
-    if let Verdict::Refused(r) = judged {
-        return Length::Refused(r);
-    }
-    answer(busy(&t.period, &t.budget, &t.budget, &t.period, h, 0))
-}
-
-// The busy test of partition `h` with inversion `w`: its length, or that it fails. Refusals 1 and 3.
-pub fn busy_test<'s>(t: Table, b: &'s [u16; 16], o: &'s [u16; 16], h: usize, w: u32) -> Length
-    ensures { λ r. ⌜ BusyTestIs t (now (b .entry)) (now (o .entry)) h w r ⌝ }
-{
-    let n = t.count;
-    let table = judge_index(n, &t.period, &t.budget, &t.phase, h);
-    if let Verdict::Refused(r) = table {
-        return Length::Refused(r);
-    }
-    let state = judge_state(n, &t.period, &t.budget, b, o);
-    if let Verdict::Refused(r) = state {
-        return Length::Refused(r);
-    }
-    answer(busy(&t.period, &t.budget, b, o, h, w as u64))
 }

@@ -3,10 +3,10 @@ use Prim.Native.Nat.{ℕ}
 use mathlib.Core.Option.{Option, some, none}
 use Rattle.rules.specs.Refusals.{refusedAs}
 use Rattle.ranges.specs.Outcome.{Outcome, refused, gives}
-use Rattle.busy.specs.declared.Test.{Test}
-use Rattle.busy.specs.declared.Test.the-variants as test
-use Rattle.busy.specs.declared.Length.{Length}
-use Rattle.busy.specs.declared.Length.the-variants as length
+use Rattle.standing.specs.declared.Test.{Test}
+use Rattle.standing.specs.declared.Test.the-variants as test
+use Rattle.standing.specs.declared.Length.{Length}
+use Rattle.standing.specs.declared.Length.the-variants as length
 
 -- a test of all partitions: none fails, or the first that does; or refused
 abbrev pub testAs : Test → Outcome (Option ℕ)

@@ -1,7 +1,7 @@
--- From a busy length to a pass, to the first that fails, to admission and to one partition's R.
+-- From a pass to the first that fails, to admission and to one partition's R.
 use Prim.Native.Nat.{ℕ, suc, _+_, _≤_, _<_}
 use mathlib.Core.Path.{_≡_, refl, sym, _∙_, ap, subst}
-use mathlib.Core.Bool.{Bool, true, false, not, _&&_}
+use mathlib.Core.Bool.{Bool, true, false, cond, not, _&&_}
 use mathlib.Core.List.{List, [], _∷_}
 use mathlib.Core.Option.{Option, some, none}
 use native.Mathlib.Nat.{le-antisymm}
@@ -22,26 +22,10 @@ use Rattle.ranges.specs.Verdicts.{verdictAs}
 use Rattle.ranges.specs.declared.Verdict.{Verdict}
 use Rattle.ranges.specs.declared.Verdict.the-variants.{Good}
 use Rattle.ranges.proofs.Outcomes.{not-refused, answers-second, table-in-range, indexed-table, indexed-there, judged-table-good}
-use Rattle.busy.specs.Inner.{spanAs}
-use Rattle.busy.specs.Promises.{PassesIs}
+use Rattle.busy.specs.Spans.{spanAs}
+use Rattle.busy.specs.Promises.{BusyLengthIs, PassesIs}
 use Rattle.busy.specs.declared.Span.{Span}
 use Rattle.busy.specs.declared.Span.the-variants.{Within, Over}
-
--- ---- a pass
-module _ (T B b o : List ℕ) (h w : ℕ) where
-  pub not-there : 16 ≤ h → PassesIs T B b o h w false
-  not-there l = sym (rw (le-ltb h 16 l))
-
-  there : (r : Bool) → h < 16 → r ≡ passes T B b o h w → PassesIs T B b o h w r
-  there r l e = rw (lt-ltb h 16 l) e
-
-  pub ends-within : (x : Span) (W : ℕ) → h < 16 → spanAs x ≡ busyTest T B b o h w → x ≡ Within W → PassesIs T B b o h w true
-  unfolding passes
-  ends-within x W l e d = there true l (sym (ap found (sym e ∙ ap spanAs d)))
-
-  pub ends-over : (x : Span) → h < 16 → spanAs x ≡ busyTest T B b o h w → x ≡ Over → PassesIs T B b o h w false
-  unfolding passes
-  ends-over x l e d = there false l (sym (ap found (sym e ∙ ap spanAs d)))
 
 -- ---- the first that fails
 module _ (n : ℕ) (T B b o : List ℕ) where
@@ -87,12 +71,6 @@ module _ (n : ℕ) (T B phase : List ℕ) where
   pub few-of-state : (b o : List ℕ) (v : Verdict) → verdictAs v ≡ refusal (badTable n T B phase ∷ badState n T B b o ∷ []) → v ≡ Good → n ≤ 16
   few-of-state b o v e d = few-partitions n T B phase (judged-table-good n T B phase b o v e d)
 
-  pub index-small : (h : ℕ) (v : Verdict) → verdictAs v ≡ refusal (badTableOrIndex n T B phase h ∷ []) → v ≡ Good → h < 16
-  index-small h v e d =
-      let few = few-partitions n T B phase (indexed-table n T B phase h v e d) in
-      let here = indexed-there n T B phase h v e d in
-      omega arith
-
   -- ---- admission is the standing test of full budgets
   in-range-response : TableInRange n T B phase → (h : ℕ) → h < n → busyTest T B B T h 0 ≡ responseWithin T B h
   in-range-response t h l =
@@ -109,13 +87,27 @@ module _ (n : ℕ) (T B phase : List ℕ) where
       same ∙ ap gives (admission-stands (table-in-range n T B phase v e d)) ∙ sym (not-refused (firstUnadmitted n T B) _ v e d)
 
   -- ---- and R is that test's length
-  pub responds : (h : ℕ) (answer : Outcome (Option ℕ)) (x : Span) (v : Verdict) → verdictAs v ≡ refusal (badTableOrIndex n T B phase h ∷ []) → v ≡ Good
-      → spanAs x ≡ busyTest T B B T h 0 → answer ≡ gives (spanAs x)
-      → answer ≡ unlessRefused (refusal (badTableOrIndex n T B phase h ∷ [])) (responseWithin T B h)
-  responds h answer x v e d length same =
-      same
-      ∙ ap gives (length ∙ in-range-response (indexed-table n T B phase h v e d) h (indexed-there n T B phase h v e d))
-      ∙ sym (not-refused (responseWithin T B h) _ v e d)
+  module _ (h : ℕ) (v : Verdict) (e : verdictAs v ≡ refusal (badTableOrIndex n T B phase h ∷ [])) (d : v ≡ Good) where
+    spanned : (b o : List ℕ) (w : ℕ) (x : Span) → BusyLengthIs T B b o h w x → spanAs x ≡ busyTest T B b o h w
+    spanned b o w x length = length ∙ ap (λ (a : Bool). cond a (busyTest T B b o h w) none) (lt-ltb h 16 index-small)
+      where
+        index-small : h < 16
+        index-small =
+            let few = few-partitions n T B phase (indexed-table n T B phase h v e d) in
+            let here = indexed-there n T B phase h v e d in
+            omega arith
+
+    module _ (answer : Outcome (Option ℕ)) (x : Span) (same : answer ≡ gives (spanAs x)) where
+      pub responds : BusyLengthIs T B B T h 0 x → answer ≡ unlessRefused (refusal (badTableOrIndex n T B phase h ∷ [])) (responseWithin T B h)
+      responds length =
+          same
+          ∙ ap gives (spanned B T 0 x length ∙ in-range-response (indexed-table n T B phase h v e d) h (indexed-there n T B phase h v e d))
+          ∙ sym (not-refused (responseWithin T B h) _ v e d)
+
+      pub tested-busy : (b o : List ℕ) (w : ℕ) (y : Option ℕ) (s : Verdict) → verdictAs s ≡ refusal (ground 3 y ∷ []) → s ≡ Good → BusyLengthIs T B b o h w x
+          → answer ≡ unlessRefused (refusal (badTableOrIndex n T B phase h ∷ ground 3 y ∷ [])) (busyTest T B b o h w)
+      tested-busy b o w y s f g length =
+          answers-second (busyTest T B b o h w) _ y v e d s f answer g (same ∙ ap gives (spanned b o w x length))
 
 -- a span as an answer
 pub answered-within : (x : Span) (W : ℕ) → x ≡ Within W → gives (some W) ≡ gives (spanAs x)
@@ -123,9 +115,3 @@ answered-within x W e = ap (λ (s : Span). gives (spanAs s)) (sym e)
 
 pub answered-over : (x : Span) → x ≡ Over → gives none ≡ gives (spanAs x)
 answered-over x e = ap (λ (s : Span). gives (spanAs s)) (sym e)
-
-pub busy-answers : (T B b o : List ℕ) (h w : ℕ) (x y : Option ℕ) (v s : Verdict) → verdictAs v ≡ refusal (ground 1 x ∷ []) → v ≡ Good → verdictAs s ≡ refusal (ground 3 y ∷ []) → s ≡ Good
-    → (answer : Outcome (Option ℕ)) (span : Span) → spanAs span ≡ busyTest T B b o h w → answer ≡ gives (spanAs span)
-    → answer ≡ unlessRefused (refusal (ground 1 x ∷ ground 3 y ∷ [])) (busyTest T B b o h w)
-busy-answers T B b o h w x y v s e d f g answer span length same =
-    answers-second (busyTest T B b o h w) x y v e d s f answer g (same ∙ ap gives length)

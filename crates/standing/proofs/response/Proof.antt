@@ -1,8 +1,8 @@
 use borrow.Author.Needs.{needs}
 use Rattle.ranges.proofs.Outcomes.{hands-on}
-use Rattle.busy.proofs.Tests.{index-small, responds}
-use Rattle.busy.proofs.response.Statement.{statement}
-use Rattle.busy.proofs.response.Tie as tie
+use Rattle.standing.proofs.Tests.{responds}
+use Rattle.standing.proofs.response.Statement.{statement}
+use Rattle.standing.proofs.response.Tie as tie
 
 judge-index-requires : tie.Need-judge-index-requires
 judge-index-requires c κs = search needs
@@ -16,8 +16,8 @@ returns c = search (needs, hands-on, c .before .judged .given .1)
 enum-told : tie.Need-enum-told
 enum-told c = search needs
 
-busy-requires : tie.Need-busy-requires
-busy-requires c κs = search (needs, index-small, c .before .before .before .before .before .enum-told .given .1)
+busy-length-requires : tie.Need-busy-length-requires
+busy-length-requires c κs = search needs
 
 answer-requires : tie.Need-answer-requires
 answer-requires c κs = search needs
@@ -33,6 +33,6 @@ response-spec =
     enum-known-judged
     returns
     enum-told
-    busy-requires
+    busy-length-requires
     answer-requires
     returns-2)

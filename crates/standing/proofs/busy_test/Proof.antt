@@ -1,8 +1,8 @@
 use borrow.Author.Needs.{needs}
 use Rattle.ranges.proofs.Outcomes.{hands-on-first, hands-on-second}
-use Rattle.busy.proofs.Tests.{index-small, busy-answers}
-use Rattle.busy.proofs.busy_test.Statement.{statement}
-use Rattle.busy.proofs.busy_test.Tie as tie
+use Rattle.standing.proofs.Tests.{tested-busy}
+use Rattle.standing.proofs.busy_test.Statement.{statement}
+use Rattle.standing.proofs.busy_test.Tie as tie
 
 judge-index-requires : tie.Need-judge-index-requires
 judge-index-requires c κs = search needs
@@ -28,14 +28,14 @@ returns-2 c = search (needs, hands-on-second, c .before .state .given .1, c .bef
 enum-told-2 : tie.Need-enum-told-2
 enum-told-2 c = search needs
 
-busy-requires : tie.Need-busy-requires
-busy-requires c κs = search (needs, index-small, c .before .before .before .before .before .before .before .before .before .enum-told .given .1)
+busy-length-requires : tie.Need-busy-length-requires
+busy-length-requires c κs = search needs
 
 answer-requires : tie.Need-answer-requires
 answer-requires c κs = search needs
 
 returns-3 : tie.Need-returns-3
-returns-3 c = search (needs, busy-answers, c .before .before .before .before .before .enum-told2 .given .1, c .before .before .before .before .before .before .before .before .before .before .before .enum-told .given .1)
+returns-3 c = search (needs, tested-busy, c .before .before .before .before .before .enum-told2 .given .1, c .before .before .before .before .before .before .before .before .before .before .before .enum-told .given .1)
 
 pub busy-test-spec : {M : Type 1} → statement M
 busy-test-spec =
@@ -49,6 +49,6 @@ busy-test-spec =
     enum-known-state
     returns-2
     enum-told-2
-    busy-requires
+    busy-length-requires
     answer-requires
     returns-3)

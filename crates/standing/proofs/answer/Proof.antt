@@ -1,7 +1,7 @@
 use borrow.Author.Needs.{needs}
-use Rattle.busy.proofs.Tests.{answered-within, answered-over}
-use Rattle.busy.proofs.answer.Statement.{statement}
-use Rattle.busy.proofs.answer.Tie as tie
+use Rattle.standing.proofs.Tests.{answered-within, answered-over}
+use Rattle.standing.proofs.answer.Statement.{statement}
+use Rattle.standing.proofs.answer.Tie as tie
 
 enum-known-span : tie.Need-enum-known-span
 enum-known-span c = search needs

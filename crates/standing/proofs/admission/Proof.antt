@@ -1,8 +1,8 @@
 use borrow.Author.Needs.{needs}
 use Rattle.ranges.proofs.Outcomes.{hands-on}
-use Rattle.busy.proofs.Tests.{few-of-table, admits}
-use Rattle.busy.proofs.admission.Statement.{statement}
-use Rattle.busy.proofs.admission.Tie as tie
+use Rattle.standing.proofs.Tests.{few-of-table, admits}
+use Rattle.standing.proofs.admission.Statement.{statement}
+use Rattle.standing.proofs.admission.Tie as tie
 
 judge-table-requires : tie.Need-judge-table-requires
 judge-table-requires c κs = search needs

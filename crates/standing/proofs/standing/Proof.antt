@@ -1,8 +1,8 @@
 use borrow.Author.Needs.{needs}
 use Rattle.ranges.proofs.Outcomes.{hands-on, answers}
-use Rattle.busy.proofs.Tests.{few-of-state}
-use Rattle.busy.proofs.standing.Statement.{statement}
-use Rattle.busy.proofs.standing.Tie as tie
+use Rattle.standing.proofs.Tests.{few-of-state}
+use Rattle.standing.proofs.standing.Statement.{statement}
+use Rattle.standing.proofs.standing.Tie as tie
 
 judge-requires : tie.Need-judge-requires
 judge-requires c κs = search needs

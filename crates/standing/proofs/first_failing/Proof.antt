@@ -1,8 +1,8 @@
 use Prim.Native.Nat.{_-_, _≤_}
 use borrow.Author.Needs.{needs}
-use Rattle.busy.proofs.Tests.{StandsUpTo, stands-begins, stands-goes-on, first-fails, none-fails}
-use Rattle.busy.proofs.first_failing.Statement.{statement}
-use Rattle.busy.proofs.first_failing.Tie as tie
+use Rattle.standing.proofs.Tests.{StandsUpTo, stands-begins, stands-goes-on, first-fails, none-fails}
+use Rattle.standing.proofs.first_failing.Statement.{statement}
+use Rattle.standing.proofs.first_failing.Tie as tie
 
 abbrev Inv-loop : tie.InvT-loop
 Inv-loop n period budget b o h₀ h = (h ≤ n) × StandsUpTo n period budget b o h

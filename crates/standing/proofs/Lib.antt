@@ -1,0 +1,2 @@
+-- from a pass to what it decides
+pub mod Tests

@@ -1,0 +1,4 @@
+-- the code's answers, read as 01's numbers and values
+pub mod Answers
+-- what each public function promises
+pub mod Promises
