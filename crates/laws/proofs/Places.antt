@@ -1,11 +1,11 @@
 -- The first number below n that passes a test, all of them, those of them, and what a list has.
-use Prim.Native.Nat.{ℕ, zero, suc, _+_, _<_}
+use Prim.Native.Nat.{ℕ, zero, suc, _+_, _≤_, _<_, zero-le}
 use mathlib.Core.Path.{_≡_, refl, _∙_, ap, ap₂, sym}
 use mathlib.Core.Bool.{Bool, true, false, cond, _&&_, _||_}
 use mathlib.Core.List.{List, [], _∷_, _++_, append-nil, map, map-append}
 use mathlib.Core.Option.{Option, some, none}
-use mathlib.Core.Logic.{⊎-elim}
-use native.Mathlib.Nat.{le-step, lt-suc-self, le-of-suc-le-suc}
+use mathlib.Core.Logic.{_⊎_, inl, inr, ⊎-elim}
+use native.Mathlib.Nat.{le-refl, le-step, le-antisymm, lt-suc-self, le-of-suc-le-suc}
 use native.Mathlib.Numerals.{add-one}
 use native.Mathlib.Omega.{arith}
 use borrow.Author.Tests.{eqb-true, eq-eqb}
@@ -13,7 +13,7 @@ use lib.Dec.{eqb}
 use lib.ListN.{length, length-append, List·getD-append}
 use lib.Seq.{getD-append-seam}
 use Rattle.basis.specs.Words.{_!_, has, all, those, first, orElse, Increasing}
-use Rattle.laws.proofs.Tests.{both, and-left, and-right, or-left, or-right, or-cases, never, below-cases, some-is-none, none-is-some}
+use Rattle.laws.proofs.Tests.{both, and-left, and-right, or-left, or-right, or-cases, never, below-or-not, below-cases, some-is-none, none-is-some}
 
 -- ---- all
 pub all-true : (n : ℕ) (test : ℕ → Bool) → all n test ≡ true → (i : ℕ) → i < n → test i ≡ true
@@ -201,3 +201,35 @@ map-those-same (suc n) test f g h =
     last : (t : Bool) → map f (cond t (n ∷ []) []) ≡ map g (cond t (n ∷ []) [])
     last true = ap (λ x. x ∷ []) (h n (lt-suc-self n))
     last false = refl
+
+-- no more than n numbers below n, and none after the last that passes
+pub those-short : (n : ℕ) (test : ℕ → Bool) → length (those n test) ≤ n
+unfolding those
+those-short zero test = le-refl 0
+those-short (suc n) test =
+    let before = those-short n test in
+    let joined = length-append (those n test) (cond (test n) (n ∷ []) []) in
+    let last = at-most-one (test n) in
+    omega arith
+  where
+    at-most-one : (a : Bool) → length (cond a (n ∷ []) []) ≤ 1
+    at-most-one true = le-refl 1
+    at-most-one false = zero-le
+
+pub those-stop : (c n : ℕ) (test : ℕ → Bool) → c ≤ n → ((j : ℕ) → c ≤ j → j < n → test j ≡ false) → those n test ≡ those c test
+unfolding those
+those-stop c zero test l off = let same : c ≡ 0 = omega arith in rw same
+those-stop c (suc n) test l off = go (below-or-not c (suc n)) (those-stop c n test)
+  where
+    go : (c < suc n) ⊎ (suc n ≤ c) → (c ≤ n → ((j : ℕ) → c ≤ j → j < n → test j ≡ false) → those n test ≡ those c test)
+        → those n test ++ cond (test n) (n ∷ []) [] ≡ those c test
+    go (inl k) before = rw (off n (le-of-suc-le-suc k) (lt-suc-self n), append-nil) (before (le-of-suc-le-suc k) (λ j m i. off j m (le-step i)))
+    go (inr k) before = let same : c ≡ suc n = le-antisymm l k in rw same
+
+pub those-next : (n : ℕ) (test : ℕ → Bool) → test n ≡ true → those (n + 1) test ≡ those n test ++ n ∷ []
+unfolding those
+those-next n test on = rw (add-one n, on)
+
+pub those-skip : (n : ℕ) (test : ℕ → Bool) → test n ≡ false → those (n + 1) test ≡ those n test
+unfolding those
+those-skip n test off = rw (add-one n, off, append-nil)

@@ -1,0 +1,4 @@
+-- a list in an array's places
+pub mod Places
+-- the search
+pub mod Search
