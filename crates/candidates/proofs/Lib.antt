@@ -1,4 +1,6 @@
 -- a list in an array's places
 pub mod Places
 -- the search
-pub mod Search
+pub mod Nested
+-- from the search to what the calls say
+pub mod Calls

@@ -3,7 +3,7 @@ use Prim.Native.Nat.{ℕ, suc, _+_, _-_, _<_, _≤_}
 use mathlib.Core.Path.{_≡_, refl, sym, _∙_, ap}
 use mathlib.Core.List.{List, [], _∷_, _++_, append-assoc}
 use native.Mathlib.Omega.{arith}
-use lib.ListN.{length, replicate, set, take, length-append}
+use lib.ListN.{length, replicate, set, take, length-append, length-replicate}
 use lib.Seq.{set-append-seam, take-append-seam}
 use Rattle.candidates.specs.Padded.{padded}
 
@@ -24,3 +24,10 @@ padded-next places xs y l =
 pub padded-used : (places : ℕ) (xs : List ℕ) → take (length xs) (padded places xs) ≡ xs
 unfolding padded
 padded-used places xs = take-append-seam xs _
+
+pub padded-long : (places : ℕ) (xs : List ℕ) → length xs ≤ places → length (padded places xs) ≡ places
+unfolding padded
+padded-long places xs l =
+    let joined = length-append xs (replicate (places - length xs) 0) in
+    let rest = length-replicate {A = ℕ} (places - length xs) 0 in
+    omega arith

@@ -1,14 +1,20 @@
 -- What each public function of this crate promises of its answer r.
 use Prim.Native.Nat.{ℕ}
 use mathlib.Core.Path.{_≡_}
-use mathlib.Core.Bool.{cond}
-use mathlib.Core.List.{List, []}
+use mathlib.Core.Bool.{Bool, cond}
+use mathlib.Core.List.{List, [], _∷_}
+use mathlib.Core.Option.{Option, some, none}
 use lib.Dec.{leb}
 use lib.ListN.{length}
+use Rattle.basis.specs.Words.{has}
 use Rattle.rules.specs.Numbers.{mostPartitions}
 use Rattle.rules.specs.Candidates.{candidates, inversion}
+use Rattle.rules.specs.Refusals.{Refused, badTable, badState, refusal}
+use Rattle.rules.specs.declared.Table.{Table}
+use Rattle.ranges.specs.Verdicts.{verdictAs}
 use Rattle.candidates.specs.Padded.{padded}
 use Rattle.candidates.specs.declared.Found.{Found}
+use Rattle.candidates.specs.declared.Listed.{Listed}
 
 -- 16 partitions and idle
 abbrev pub places : ℕ
@@ -20,5 +26,30 @@ pub record ListIs (xs : List ℕ) (r : Found) : Type 0 where
   pub length : r .length ≡ length xs
 
 -- the candidates; none of more than sixteen
+abbrev pub candidatesOf : ℕ → List ℕ → List ℕ → List ℕ → List ℕ → List ℕ
+candidatesOf n T B b o = cond (leb n mostPartitions) (candidates n T B b o inversion) []
+
 abbrev pub SearchIs : ℕ → List ℕ → List ℕ → List ℕ → List ℕ → Found → Type 0
-SearchIs n T B b o r = ListIs (cond (leb n mostPartitions) (candidates n T B b o inversion) []) r
+SearchIs n T B b o r = ListIs (candidatesOf n T B b o) r
+
+abbrev pub MemberIs : ℕ → List ℕ → List ℕ → List ℕ → List ℕ → ℕ → Bool → Type 0
+MemberIs n T B b o pick r = r ≡ has (candidatesOf n T B b o) pick
+
+-- a list as an answer: in its places with its length, or refused and all 0
+pub record Listing : Type 0 where
+  pub list : List ℕ
+  pub length : ℕ
+  pub refused : Option Refused
+
+abbrev pub listedAs : Listed → Listing
+listedAs r = record { list = r .list; length = r .length; refused = verdictAs (r .verdict) }
+
+unfoldable pub listing : Option Refused → List ℕ → Listing
+listing none xs = record { list = padded places xs; length = length xs; refused = none }
+listing (some r) xs = record { list = padded places []; length = 0; refused = some r }
+
+-- the candidate list: refusals 1 and 3
+abbrev pub CandidatesIs : Table → List ℕ → List ℕ → Listed → Type 0
+CandidatesIs t b o r =
+    listedAs r ≡ listing (refusal (badTable (t .count) (t .period) (t .budget) (t .phase) ∷ badState (t .count) (t .period) (t .budget) b o ∷ []))
+    (candidates (t .count) (t .period) (t .budget) b o inversion)

@@ -1,6 +1,6 @@
 -- The first number below n that passes a test, all of them, those of them, and what a list has.
 use Prim.Native.Nat.{ℕ, zero, suc, _+_, _≤_, _<_, zero-le}
-use mathlib.Core.Path.{_≡_, refl, _∙_, ap, ap₂, sym}
+use mathlib.Core.Path.{_≡_, refl, _∙_, ap, ap₂, sym, subst}
 use mathlib.Core.Bool.{Bool, true, false, cond, _&&_, _||_}
 use mathlib.Core.List.{List, [], _∷_, _++_, append-nil, map, map-append}
 use mathlib.Core.Option.{Option, some, none}
@@ -8,10 +8,10 @@ use mathlib.Core.Logic.{_⊎_, inl, inr, ⊎-elim}
 use native.Mathlib.Nat.{le-refl, le-step, le-antisymm, lt-suc-self, le-of-suc-le-suc}
 use native.Mathlib.Numerals.{add-one}
 use native.Mathlib.Omega.{arith}
-use borrow.Author.Tests.{eqb-true, eq-eqb}
+use borrow.Author.Tests.{eqb-true, eq-eqb, ne-eqb}
 use lib.Dec.{eqb}
-use lib.ListN.{length, length-append, List·getD-append}
-use lib.Seq.{getD-append-seam}
+use lib.ListN.{length, take, length-append, List·getD-append}
+use lib.Seq.{getD-append-seam, getD-take, take-suc, length-take-le}
 use Rattle.basis.specs.Words.{_!_, has, all, those, first, orElse, Increasing}
 use Rattle.laws.proofs.Tests.{both, and-left, and-right, or-left, or-right, or-cases, never, below-or-not, below-cases, some-is-none, none-is-some}
 
@@ -233,3 +233,18 @@ those-next n test on = rw (add-one n, on)
 pub those-skip : (n : ℕ) (test : ℕ → Bool) → test n ≡ false → those (n + 1) test ≡ those n test
 unfolding those
 those-skip n test off = rw (add-one n, off, append-nil)
+
+-- ---- a loop that looks whether a list has x, and has come to i
+pub has-take-next : (xs : List ℕ) (i m x y : ℕ) → i < m → m ≤ length xs → has (take i xs) x ≡ false → y ≡ xs ! i → (y ≡ x → ⊥) → has (take (i + 1) xs) x ≡ false
+unfolding has
+has-take-next xs i m x y l fits before same other =
+    ap (λ (ys : List ℕ). has ys x) (ap (λ j. take j xs) (add-one i) ∙ take-suc xs i 0 (omega arith))
+    ∙ has-append (take i xs) (xs ! i ∷ []) x
+    ∙ rw (before, ne-eqb x (xs ! i) (λ e. other (same ∙ sym e)))
+
+pub has-take-here : (xs : List ℕ) (i m x y : ℕ) → i < m → m ≤ length xs → y ≡ xs ! i → y ≡ x → true ≡ has (take m xs) x
+has-take-here xs i m x y l fits same here =
+    sym (subst (λ (z : ℕ). has (take m xs) z ≡ true) (getD-take m xs i 0 l ∙ sym same ∙ here) (has-entry (take m xs) i (rw (length-take-le m xs fits) l)))
+
+pub has-take-none : (xs : List ℕ) (i m x : ℕ) → m ≤ i → i ≤ m → has (take i xs) x ≡ false → false ≡ has (take m xs) x
+has-take-none xs i m x l k before = sym (subst (λ (j : ℕ). has (take j xs) x ≡ false) (le-antisymm k l) before)

@@ -11,6 +11,7 @@ use Rattle.rules.specs.Numbers.{firstBadPartition, TableInRange, firstBadPair}
 use Rattle.rules.specs.Refusals.{Refused, refusedAs, Ground, ground, badTable, badTableOrIndex, badState, refusal, unlessBefore}
 use Rattle.rules.specs.declared.Refusal.{Refusal}
 use Rattle.laws.proofs.Tests.{some-is-none}
+use Rattle.laws.proofs.Numbers.{table-good}
 use Rattle.ranges.specs.Outcome.{Outcome, refused, gives, unlessRefused}
 use Rattle.ranges.specs.Verdicts.{verdictAs}
 use Rattle.ranges.specs.declared.Verdict.{Verdict}
@@ -50,11 +51,17 @@ none-before : (number : ℕ) (x : Option ℕ) (later : Option Refused) → unles
 none-before number (some second) later e = some-is-none e
 none-before number none later e = refl
 
+pub few-partitions : (n : ℕ) (T B phase : List ℕ) → TableInRange n T B phase → n ≤ 16
+few-partitions n T B phase t = table-good n T B phase t .not-many
+
 -- what a good verdict says
 module _ (n : ℕ) (T B phase : List ℕ) where
   pub table-in-range : (v : Verdict) → verdictAs v ≡ refusal (badTable n T B phase ∷ []) → v ≡ verdict.Good → TableInRange n T B phase
   unfolding refusal
   table-in-range v e d = none-before 1 _ none (sym e ∙ verdict-good v d)
+
+  pub few-of-table : (v : Verdict) → verdictAs v ≡ refusal (badTable n T B phase ∷ []) → v ≡ verdict.Good → n ≤ 16
+  few-of-table v e d = few-partitions n T B phase (table-in-range v e d)
 
   module _ (h : ℕ) (v : Verdict) (e : verdictAs v ≡ refusal (badTableOrIndex n T B phase h ∷ [])) (d : v ≡ verdict.Good) where
     neither : (x : Option ℕ) (a : Option ℕ) → orElse x a ≡ none → (x ≡ none) × (a ≡ none)
@@ -87,3 +94,6 @@ module _ (n : ℕ) (T B phase : List ℕ) where
         later : (x : Option ℕ) → x ≡ none → unlessBefore 1 x (unlessBefore 3 (firstBadPair n T B b o) none) ≡ none → unlessBefore 3 (firstBadPair n T B b o) none ≡ none
         later none p q = q
         later (some i) p q = some-is-none p
+
+    pub few-of-state : (v : Verdict) → verdictAs v ≡ refusal (badTable n T B phase ∷ badState n T B b o ∷ []) → v ≡ verdict.Good → n ≤ 16
+    few-of-state v e d = few-partitions n T B phase (judged-table-good v e d)

@@ -21,7 +21,7 @@ use Rattle.ranges.specs.Outcome.{Outcome, gives, unlessRefused}
 use Rattle.ranges.specs.Verdicts.{verdictAs}
 use Rattle.ranges.specs.declared.Verdict.{Verdict}
 use Rattle.ranges.specs.declared.Verdict.the-variants.{Good}
-use Rattle.ranges.proofs.Outcomes.{not-refused, answers-second, table-in-range, indexed-table, indexed-there, judged-table-good}
+use Rattle.ranges.proofs.Outcomes.{not-refused, answers-second, table-in-range, indexed-table, indexed-there, few-partitions}
 use Rattle.busy.specs.Spans.{spanAs}
 use Rattle.busy.specs.Promises.{BusyLengthIs, PassesIs}
 use Rattle.busy.specs.declared.Span.{Span}
@@ -60,17 +60,7 @@ module _ (n : ℕ) (T B b o : List ℕ) where
   unfolding StandsUpTo firstFailing failing
   none-fails h before l k = ap gives (sym (subst (λ (m : ℕ). first m failing ≡ none) (le-antisymm k l) before))
 
--- ---- what a good verdict spares
-pub few-partitions : (n : ℕ) (T B phase : List ℕ) → TableInRange n T B phase → n ≤ 16
-few-partitions n T B phase t = table-good n T B phase t .not-many
-
 module _ (n : ℕ) (T B phase : List ℕ) where
-  pub few-of-table : (v : Verdict) → verdictAs v ≡ refusal (badTable n T B phase ∷ []) → v ≡ Good → n ≤ 16
-  few-of-table v e d = few-partitions n T B phase (table-in-range n T B phase v e d)
-
-  pub few-of-state : (b o : List ℕ) (v : Verdict) → verdictAs v ≡ refusal (badTable n T B phase ∷ badState n T B b o ∷ []) → v ≡ Good → n ≤ 16
-  few-of-state b o v e d = few-partitions n T B phase (judged-table-good n T B phase b o v e d)
-
   -- ---- admission is the standing test of full budgets
   in-range-response : TableInRange n T B phase → (h : ℕ) → h < n → busyTest T B B T h 0 ≡ responseWithin T B h
   in-range-response t h l =

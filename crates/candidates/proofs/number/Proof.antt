@@ -1,5 +1,5 @@
 use borrow.Author.Needs.{needs}
-use Rattle.candidates.proofs.Search.{named-partition, named-idle}
+use Rattle.candidates.proofs.Nested.{named-partition, named-idle}
 use Rattle.candidates.proofs.number.Statement.{statement}
 use Rattle.candidates.proofs.number.Tie as tie
 

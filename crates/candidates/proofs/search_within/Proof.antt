@@ -1,7 +1,7 @@
 use Prim.Native.Nat.{_+_, _-_, _≤_}
 use native.Mathlib.Omega.{arith}
 use borrow.Author.Needs.{needs}
-use Rattle.candidates.proofs.Search.{SoFar, Tested, search-begins, search-skips, tests-ahead, tested-before, tested-on, tested-all, search-takes, search-fails, search-ends}
+use Rattle.candidates.proofs.Nested.{SoFar, Tested, search-begins, search-skips, tests-ahead, tested-before, tested-on, tested-all, search-takes, search-fails, search-ends}
 use Rattle.candidates.proofs.search_within.Statement.{statement}
 use Rattle.candidates.proofs.search_within.Tie as tie
 

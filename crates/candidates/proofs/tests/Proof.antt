@@ -1,5 +1,5 @@
 use borrow.Author.Needs.{needs}
-use Rattle.candidates.proofs.Search.{tests-all, tests-none}
+use Rattle.candidates.proofs.Nested.{tests-all, tests-none}
 use Rattle.candidates.proofs.tests.Statement.{statement}
 use Rattle.candidates.proofs.tests.Tie as tie
 

@@ -1,5 +1,5 @@
 use borrow.Author.Needs.{needs}
-use Rattle.candidates.proofs.Search.{waits-active, waits-idle}
+use Rattle.candidates.proofs.Nested.{waits-active, waits-idle}
 use Rattle.candidates.proofs.waits.Statement.{statement}
 use Rattle.candidates.proofs.waits.Tie as tie
 

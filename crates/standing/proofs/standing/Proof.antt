@@ -1,6 +1,5 @@
 use borrow.Author.Needs.{needs}
-use Rattle.ranges.proofs.Outcomes.{hands-on, answers}
-use Rattle.standing.proofs.Tests.{few-of-state}
+use Rattle.ranges.proofs.Outcomes.{hands-on, answers, few-of-state}
 use Rattle.standing.proofs.standing.Statement.{statement}
 use Rattle.standing.proofs.standing.Tie as tie
 

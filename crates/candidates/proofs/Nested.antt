@@ -86,6 +86,9 @@ module _ (n : ℕ) (T B b o : List ℕ) where
   unfolding named
   named-short c = rw (length-map (those c chosen) name) (those-short c chosen)
 
+  pub candidates-short : length (candidates n T B b o inversion) ≤ n + 1
+  candidates-short = rw named-all (named-short (n + 1))
+
   opened : (c : ℕ) → chosen c ≡ true → (wants c && mayRun T B b o inversion c) ≡ true
   unfolding chosen
   opened c p = p
