@@ -16,7 +16,7 @@ use Rattle.ranges.specs.Outcome.{Outcome, refused, gives, unlessRefused}
 use Rattle.ranges.specs.Verdicts.{verdictAs}
 use Rattle.ranges.specs.declared.Verdict.{Verdict}
 use Rattle.ranges.specs.declared.Verdict.the-variants as verdict
-use Rattle.ranges.proofs.Verdicts.{verdict-refused, verdict-good, table-first, then-state}
+use Rattle.ranges.proofs.Verdicts.{verdict-refused, verdict-good, table-first, then-state, Late, first-two, third-after}
 
 module _ {A : Type 0} (x : A) (gs : List Ground) where
   -- a refusal is handed on
@@ -46,6 +46,22 @@ module _ {A : Type 0} (answer : A) (x y : Option ℕ) (v : Verdict) (e : verdict
     pub answers-second : (said : Outcome A) → s ≡ verdict.Good → said ≡ gives answer → said ≡ unlessRefused (refusal (ground 1 x ∷ ground 3 y ∷ [])) answer
     unfolding unlessRefused
     answers-second said g same = same ∙ sym (rw (then-state x y (sym e ∙ verdict-good v d), sym f ∙ verdict-good s g))
+
+-- a verdict, and then a ground of a later number
+module _ {A : Type 0} (answer : A) (x y z : Option ℕ) {k : ℕ} (late : Late k) (v : Verdict) (e : verdictAs v ≡ refusal (ground 1 x ∷ ground 3 y ∷ [])) where
+  pub hands-on-late : (r : Refusal) → v ≡ verdict.Refused r → refused (refusedAs r) ≡ unlessRefused (refusal (ground 1 x ∷ ground 3 y ∷ ground k z ∷ [])) answer
+  unfolding unlessRefused
+  hands-on-late r d = rw (first-two x y z late (refusedAs r) (sym e ∙ verdict-refused v r d))
+
+  module _ (d : v ≡ verdict.Good) where
+    pub refuses-late : (s : ℕ) → z ≡ some s → refused (record { number = k; second = s }) ≡ unlessRefused (refusal (ground 1 x ∷ ground 3 y ∷ ground k z ∷ [])) answer
+    unfolding unlessRefused
+    refuses-late s f = sym (ap (λ (r : Option Refused). unlessRefused r answer) (third-after x y z late (sym e ∙ verdict-good v d) ∙ ap (λ (u : Option ℕ). unlessBefore k u none) f))
+
+    pub answers-late : (said : Outcome A) → z ≡ none → said ≡ gives answer → said ≡ unlessRefused (refusal (ground 1 x ∷ ground 3 y ∷ ground k z ∷ [])) answer
+    unfolding unlessRefused
+    answers-late said f same =
+        same ∙ sym (ap (λ (r : Option Refused). unlessRefused r answer) (third-after x y z late (sym e ∙ verdict-good v d) ∙ ap (λ (u : Option ℕ). unlessBefore k u none) f))
 
 none-before : (number : ℕ) (x : Option ℕ) (later : Option Refused) → unlessBefore number x later ≡ none → x ≡ none
 none-before number (some second) later e = some-is-none e

@@ -6,7 +6,7 @@ use mathlib.Core.Option.{Option, some, none}
 use borrow.Author.Tests.{lt-ltb, le-ltb}
 use Rattle.basis.specs.Words.{orElse}
 use Rattle.rules.specs.Numbers.{firstBadPartition}
-use Rattle.rules.specs.Refusals.{Refused, refusedAs, ground, badTable, badTableOrIndex, refusal, unlessBefore}
+use Rattle.rules.specs.Refusals.{Refused, refusedAs, ground, badTable, badTableOrIndex, refusal, unlessBefore, order, firstApplying}
 use Rattle.rules.specs.declared.Refusal.{Refusal}
 use Rattle.rules.specs.declared.Refusal.the-variants.{BadPartition}
 use Rattle.laws.proofs.Tests.{none-is-some, some-is-none}
@@ -49,6 +49,44 @@ module _ (x y : Option ℕ) where
   pub judged-state : (v next : Verdict) → verdictAs v ≡ refusal (ground 1 x ∷ []) → v ≡ verdict.Good → verdictAs next ≡ refusal (ground 3 y ∷ [])
       → verdictAs next ≡ refusal (ground 1 x ∷ ground 3 y ∷ [])
   judged-state v next e d f = f ∙ sym (then-state (sym e ∙ verdict-good v d))
+
+-- the numbers that come after 1 and 3
+pub data Late : ℕ → Type 0 where
+  four : Late 4
+  five : Late 5
+  six : Late 6
+  seven : Late 7
+
+module _ (x y z : Option ℕ) where
+  pub first-two : {k : ℕ} → Late k → (r : Refused) → refusal (ground 1 x ∷ ground 3 y ∷ []) ≡ some r → refusal (ground 1 x ∷ ground 3 y ∷ ground k z ∷ []) ≡ some r
+  unfolding refusal
+  first-two late r e = by-cases late x y e
+    where
+      by-cases : {k : ℕ} → Late k → (x y : Option ℕ) → unlessBefore 1 x (unlessBefore 3 y none) ≡ some r → firstApplying order (ground 1 x ∷ ground 3 y ∷ ground k z ∷ []) ≡ some r
+      by-cases four (some i) y e = e
+      by-cases four none (some j) e = e
+      by-cases four none none e = none-is-some e
+      by-cases five (some i) y e = e
+      by-cases five none (some j) e = e
+      by-cases five none none e = none-is-some e
+      by-cases six (some i) y e = e
+      by-cases six none (some j) e = e
+      by-cases six none none e = none-is-some e
+      by-cases seven (some i) y e = e
+      by-cases seven none (some j) e = e
+      by-cases seven none none e = none-is-some e
+
+  pub third-after : {k : ℕ} → Late k → refusal (ground 1 x ∷ ground 3 y ∷ []) ≡ none → refusal (ground 1 x ∷ ground 3 y ∷ ground k z ∷ []) ≡ unlessBefore k z none
+  unfolding refusal
+  third-after late e = by-cases late x y e
+    where
+      by-cases : {k : ℕ} → Late k → (x y : Option ℕ) → unlessBefore 1 x (unlessBefore 3 y none) ≡ none → firstApplying order (ground 1 x ∷ ground 3 y ∷ ground k z ∷ []) ≡ unlessBefore k z none
+      by-cases late (some i) y e = some-is-none e
+      by-cases late none (some j) e = some-is-none e
+      by-cases four none none e = refl
+      by-cases five none none e = refl
+      by-cases six none none e = refl
+      by-cases seven none none e = refl
 
 -- a partition that isn't there comes after the fields
 module _ (n : ℕ) (T B phase : List ℕ) (h : ℕ) where

@@ -1,0 +1,27 @@
+use borrow.Author.Needs.{needs}
+use Rattle.candidates.proofs.Calls.{found-few, found-fits}
+use Rattle.draw.proofs.Calls.{usable, draws-idle, scales-fit, draws}
+use Rattle.draw.proofs.choose.Statement.{statement}
+use Rattle.draw.proofs.choose.Tie as tie
+
+search-requires : tie.Need-search-requires
+search-requires c κs = search needs
+
+weigh-requires : tie.Need-weigh-requires
+weigh-requires c κs = search (needs, usable)
+
+returns : tie.Need-returns
+returns c = search (needs, draws-idle)
+
+rem-at : tie.Need-rem-at
+rem-at c = search needs
+
+pick-at-requires : tie.Need-pick-at-requires
+pick-at-requires c κs = search (needs, found-few, found-fits, scales-fit)
+
+returns-2 : tie.Need-returns-2
+returns-2 c = search (needs, draws)
+
+pub choose-spec : {M : Type 1} → statement M
+choose-spec =
+    tie.close (tie.spec search-requires weigh-requires returns rem-at pick-at-requires returns-2)
