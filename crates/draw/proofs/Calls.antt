@@ -20,12 +20,12 @@ use Rattle.rules.specs.declared.Refusal.{Refusal}
 use Rattle.laws.proofs.Tests.{or-left, or-right, below-or-not}
 use Rattle.laws.proofs.Places.{has-entry}
 use Rattle.laws.proofs.Candidates.{Listed, member-listed, candidate-cases}
-use Rattle.ranges.specs.Outcome.{refused, gives, unlessRefused}
+use Rattle.ranges.specs.Outcome.{Outcome, refused, gives, unlessRefused}
 use Rattle.ranges.specs.Verdicts.{verdictAs}
 use Rattle.ranges.specs.declared.Verdict.{Verdict}
 use Rattle.ranges.specs.declared.Verdict.the-variants as verdict
 use Rattle.ranges.proofs.Verdicts.{verdict-refused, verdict-good, four}
-use Rattle.ranges.proofs.Outcomes.{hands-on-late, refuses-late, answers-late, few-of-state}
+use Rattle.ranges.proofs.Outcomes.{refused-early, refused-late, not-at-all, few-of-state}
 use Rattle.candidates.specs.Padded.{padded}
 use Rattle.candidates.specs.Promises.{candidatesOf, SearchIs}
 use Rattle.candidates.specs.declared.Found.{Found}
@@ -167,16 +167,22 @@ first-word : (words : List ℕ) → (length words ≡ 0 → ⊥) → unless (ltb
 first-word words some-there = rw (lt-ltb 0 (length words) (omega arith))
 
 module _ (n : ℕ) (T B phase b o words : List ℕ) (v : Verdict) (judged : verdictAs v ≡ refusal (badTable n T B phase ∷ badState n T B b o ∷ [])) where
-  pub decision-refused : (r : Refusal) → v ≡ verdict.Refused r
-      → refused (refusedAs r) ≡ unlessRefused (refusal (badTable n T B phase ∷ badState n T B b o ∷ noWord words ∷ [])) (decision n T B b o (words ! 0))
-  decision-refused r d = hands-on-late _ _ _ _ four v judged r d
+  abbrev Said : Outcome ℕ
+  Said = unlessRefused (refusal (badTable n T B phase ∷ badState n T B b o ∷ noWord words ∷ [])) (decision n T B b o (words ! 0))
 
-  pub decision-wordless : v ≡ verdict.Good → length words ≡ 0
-      → refused (record { number = 4; second = 0 }) ≡ unlessRefused (refusal (badTable n T B phase ∷ badState n T B b o ∷ noWord words ∷ [])) (decision n T B b o (words ! 0))
-  decision-wordless d e = refuses-late _ _ _ _ four v judged d 0 (no-first-word words e)
+  says : (r : Option Refused) → refusal (badTable n T B phase ∷ badState n T B b o ∷ noWord words ∷ []) ≡ r → unlessRefused r (decision n T B b o (words ! 0)) ≡ Said
+  says r e = ap (λ (x : Option Refused). unlessRefused x (decision n T B b o (words ! 0))) (sym e)
 
-  pub decision-made : (pick : ℕ) → v ≡ verdict.Good → (length words ≡ 0 → ⊥) → ChooseIs n T B b o (words ! 0) pick
-      → gives pick ≡ unlessRefused (refusal (badTable n T B phase ∷ badState n T B b o ∷ noWord words ∷ [])) (decision n T B b o (words ! 0))
+  pub decision-refused : (r : Refusal) → v ≡ verdict.Refused r → refused (refusedAs r) ≡ Said
+  unfolding unlessRefused
+  decision-refused r d = says _ (refused-early _ _ _ four v judged r d)
+
+  pub decision-wordless : v ≡ verdict.Good → length words ≡ 0 → refused (record { number = 4; second = 0 }) ≡ Said
+  unfolding unlessRefused
+  decision-wordless d e = says _ (refused-late _ _ _ four v judged d 0 (no-first-word words e))
+
+  pub decision-made : (pick : ℕ) → v ≡ verdict.Good → (length words ≡ 0 → ⊥) → ChooseIs n T B b o (words ! 0) pick → gives pick ≡ Said
+  unfolding unlessRefused
   decision-made pick d some-there e =
-      answers-late _ _ _ _ four v judged d (gives pick) (first-word words some-there)
-      (ap gives (e ∙ ap (λ (a : Bool). cond a (decision n T B b o (words ! 0)) idle) (le-leb n 16 (few-of-state n T B phase b o v judged d))))
+      ap gives (e ∙ ap (λ (a : Bool). cond a (decision n T B b o (words ! 0)) idle) (le-leb n 16 (few-of-state n T B phase b o v judged d)))
+      ∙ says none (not-at-all _ _ _ four v judged d (first-word words some-there))

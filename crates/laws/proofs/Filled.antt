@@ -1,8 +1,9 @@
 -- A list with its first places filled.
-use Prim.Native.Nat.{ℕ, zero, suc, _≤_, _<_}
+use Prim.Native.Nat.{ℕ, zero, suc, _+_, _≤_, _<_}
 use mathlib.Core.Path.{_≡_, refl, _∙_, ap₂}
 use mathlib.Core.List.{List}
 use native.Mathlib.Nat.{le-step, lt-suc-self}
+use native.Mathlib.Numerals.{add-one}
 use native.Mathlib.Omega.{arith}
 use lib.ListN.{length, set, length-set}
 use lib.Seq.{getD-set-same, getD-set-other}
@@ -34,3 +35,8 @@ unfolding filled
 filled-same zero f g xs h = refl
 filled-same (suc n) f g xs h =
     ap₂ (λ (l : List ℕ) (x : ℕ). set l n x) (filled-same n f g xs (λ j l. h j (le-step l))) (h n (lt-suc-self n))
+
+-- a loop that fills, and has come to i
+pub filled-next : (f : ℕ → ℕ) (xs ys : List ℕ) (i x : ℕ) → ys ≡ filled i f xs → x ≡ f i → set ys i x ≡ filled (i + 1) f xs
+unfolding filled
+filled-next f xs ys i x e d = rw (add-one i, e, d)

@@ -16,6 +16,8 @@ pub mod Pick
 pub mod Refusals
 -- a fresh start, a tick and a release give states in range
 pub mod Keeps
+-- a run is the fold of its steps
+pub mod Run
 -- entries beyond the count are no part of a table
 pub mod Beyond
 -- the premises can be met

@@ -48,22 +48,18 @@ module _ {A : Type 0} (answer : A) (x y : Option ℕ) (v : Verdict) (e : verdict
     answers-second said g same = same ∙ sym (rw (then-state x y (sym e ∙ verdict-good v d), sym f ∙ verdict-good s g))
 
 -- a verdict, and then a ground of a later number
-module _ {A : Type 0} (answer : A) (x y z : Option ℕ) {k : ℕ} (late : Late k) (v : Verdict) (e : verdictAs v ≡ refusal (ground 1 x ∷ ground 3 y ∷ [])) where
-  pub hands-on-late : (r : Refusal) → v ≡ verdict.Refused r → refused (refusedAs r) ≡ unlessRefused (refusal (ground 1 x ∷ ground 3 y ∷ ground k z ∷ [])) answer
-  unfolding unlessRefused
-  hands-on-late r d = rw (first-two x y z late (refusedAs r) (sym e ∙ verdict-refused v r d))
+module _ (x y z : Option ℕ) {k : ℕ} (late : Late k) (v : Verdict) (e : verdictAs v ≡ refusal (ground 1 x ∷ ground 3 y ∷ [])) where
+  pub refused-early : (r : Refusal) → v ≡ verdict.Refused r → refusal (ground 1 x ∷ ground 3 y ∷ ground k z ∷ []) ≡ some (refusedAs r)
+  refused-early r d = first-two x y z late (refusedAs r) (sym e ∙ verdict-refused v r d)
 
   module _ (d : v ≡ verdict.Good) where
-    pub refuses-late : (s : ℕ) → z ≡ some s → refused (record { number = k; second = s }) ≡ unlessRefused (refusal (ground 1 x ∷ ground 3 y ∷ ground k z ∷ [])) answer
-    unfolding unlessRefused
-    refuses-late s f = sym (ap (λ (r : Option Refused). unlessRefused r answer) (third-after x y z late (sym e ∙ verdict-good v d) ∙ ap (λ (u : Option ℕ). unlessBefore k u none) f))
+    pub refused-late : (s : ℕ) → z ≡ some s → refusal (ground 1 x ∷ ground 3 y ∷ ground k z ∷ []) ≡ some (record { number = k; second = s })
+    refused-late s f = third-after x y z late (sym e ∙ verdict-good v d) ∙ ap (λ (u : Option ℕ). unlessBefore k u none) f
 
-    pub answers-late : (said : Outcome A) → z ≡ none → said ≡ gives answer → said ≡ unlessRefused (refusal (ground 1 x ∷ ground 3 y ∷ ground k z ∷ [])) answer
-    unfolding unlessRefused
-    answers-late said f same =
-        same ∙ sym (ap (λ (r : Option Refused). unlessRefused r answer) (third-after x y z late (sym e ∙ verdict-good v d) ∙ ap (λ (u : Option ℕ). unlessBefore k u none) f))
+    pub not-at-all : z ≡ none → refusal (ground 1 x ∷ ground 3 y ∷ ground k z ∷ []) ≡ none
+    not-at-all f = third-after x y z late (sym e ∙ verdict-good v d) ∙ ap (λ (u : Option ℕ). unlessBefore k u none) f
 
-none-before : (number : ℕ) (x : Option ℕ) (later : Option Refused) → unlessBefore number x later ≡ none → x ≡ none
+pub none-before : (number : ℕ) (x : Option ℕ) (later : Option Refused) → unlessBefore number x later ≡ none → x ≡ none
 none-before number (some second) later e = some-is-none e
 none-before number none later e = refl
 
@@ -113,3 +109,15 @@ module _ (n : ℕ) (T B phase : List ℕ) where
 
     pub few-of-state : (v : Verdict) → verdictAs v ≡ refusal (badTable n T B phase ∷ badState n T B b o ∷ []) → v ≡ verdict.Good → n ≤ 16
     few-of-state v e d = few-partitions n T B phase (judged-table-good v e d)
+
+-- back from what a call says
+module _ {A : Type 0} (x : A) where
+  pub was-refused : (r : Option Refused) (q : Refused) → refused q ≡ unlessRefused r x → r ≡ some q
+  unfolding unlessRefused
+  was-refused none q e = cc
+  was-refused (some p) q e = cc
+
+  pub was-given : (r : Option Refused) (y : A) → gives y ≡ unlessRefused r x → (r ≡ none) × (y ≡ x)
+  unfolding unlessRefused
+  was-given none y e = (refl, cc)
+  was-given (some p) y e = (cc, cc)

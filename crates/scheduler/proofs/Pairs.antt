@@ -1,0 +1,119 @@
+-- The loops over the pairs: a fresh start, the pick's tick, and time that passes.
+use Prim.Native.Nat.{ℕ, _+_, _-_, _≤_, _<_}
+use mathlib.Core.Path.{_≡_, refl, sym, _∙_, ap, ap₂}
+use mathlib.Core.Bool.{Bool, true, false, cond}
+use mathlib.Core.List.{List}
+use native.Mathlib.Nat.{le-refl, le-antisymm}
+use native.Mathlib.Omega.{arith}
+use borrow.Author.Tests.{eq-eqb, ne-eqb}
+use lib.Dec.{eqb}
+use lib.ListN.{length, replicate, set, length-set}
+use lib.Seq.{set-out, set-getD}
+use Rattle.basis.specs.Words.{_!_, filled}
+use Rattle.rules.specs.Numbers.{Pairs}
+use Rattle.rules.specs.Candidates.{idle}
+use Rattle.rules.specs.FreshStart.{zeros, freshB, freshO, freshStart}
+use Rattle.rules.specs.Tick.{spend, replenishes, nextB, nextO, passTime, tick}
+use Rattle.laws.proofs.Filled.{filled-beyond, filled-next}
+use Rattle.scheduler.specs.States.{pairs, spentPairs}
+use Rattle.scheduler.specs.declared.State.{State}
+
+-- ---- one entry
+pub at-zero : (x u v : ℕ) → x ≡ 0 → u ≡ cond (eqb x 0) u v
+at-zero x u v e = sym (rw (eq-eqb x 0 e))
+
+pub not-at-zero : (x u v : ℕ) → (x ≡ 0 → ⊥) → v ≡ cond (eqb x 0) u v
+not-at-zero x u v other = sym (rw (ne-eqb x 0 other))
+
+pub due-now : (o u v : ℕ) → o ≤ 1 → u ≡ cond (eqb (o - 1) 0) u v
+due-now o u v l = at-zero (o - 1) u v (omega arith)
+
+pub due-later : (o u v : ℕ) → 1 < o → v ≡ cond (eqb (o - 1) 0) u v
+due-later o u v l = not-at-zero (o - 1) u v (λ e. omega arith)
+
+-- ---- a fresh start has come to i
+pub record FreshTo (T B phase : List ℕ) (i : ℕ) (b o : List ℕ) : Type 0 where
+  pub b-is : b ≡ filled i (freshB B phase) zeros
+  pub o-is : o ≡ filled i (freshO T phase) zeros
+
+module _ (T B phase : List ℕ) where
+  pub fresh-begins : FreshTo T B phase 0 (replicate 16 0) (replicate 16 0)
+  unfolding filled
+  fresh-begins = record { b-is = refl; o-is = refl }
+
+  module _ (i : ℕ) (b o : List ℕ) (here : FreshTo T B phase i b o) where
+    pub fresh-on : (x y : ℕ) → x ≡ cond (eqb (phase ! i) 0) (B ! i) 0 → y ≡ cond (eqb (phase ! i) 0) (T ! i) (phase ! i)
+        → FreshTo T B phase (i + 1) (set b i x) (set o i y)
+    unfolding freshB freshO
+    fresh-on x y e d = record { b-is = filled-next (freshB B phase) zeros b i x (here .b-is) e; o-is = filled-next (freshO T phase) zeros o i y (here .o-is) d }
+
+    pub fresh-ends : (n : ℕ) → n ≤ i → i ≤ n → _≡_ {A = Pairs} (record { b = b; o = o }) (freshStart n T B phase)
+    unfolding freshStart
+    fresh-ends n l k =
+        (λ j. record { b = here .b-is j; o = here .o-is j })
+        ∙ ap (λ m. record { b = filled m (freshB B phase) zeros; o = filled m (freshO T phase) zeros }) (le-antisymm k l)
+
+-- ---- the pick's tick
+module _ (s : State) (pick : ℕ) where
+  pub nobody-spends : length (s .b) ≡ 16 → 16 ≤ pick → _≡_ {A = Pairs} (record { b = s .b; o = s .o }) (spentPairs s pick)
+  unfolding spend
+  nobody-spends long l = sym (ap (λ (b : List ℕ). record { b = b; o = s .o }) (go (eqb pick idle)))
+    where
+      go : (a : Bool) → cond a (s .b) (set (s .b) pick (s .b ! pick - 1)) ≡ s .b
+      go true = refl
+      go false = set-out (s .b) pick _ (rw long l)
+
+  one-of-sixteen : pick < 16 → spend (s .b) pick ≡ set (s .b) pick (s .b ! pick - 1)
+  unfolding spend
+  one-of-sixteen l = rw (ne-eqb pick idle (λ e. omega arith))
+
+  pub nothing-to-spend : pick < 16 → s .b ! pick ≡ 0 → _≡_ {A = Pairs} (record { b = s .b; o = s .o }) (spentPairs s pick)
+  nothing-to-spend l empty = sym (ap (λ (b : List ℕ). record { b = b; o = s .o }) (one-of-sixteen l ∙ ap (λ x. set (s .b) pick x) same ∙ set-getD (s .b) pick 0))
+    where
+      same : s .b ! pick - 1 ≡ s .b ! pick
+      same = omega arith
+
+  pub one-spent : pick < 16 → _≡_ {A = Pairs} (record { b = set (s .b) pick (s .b ! pick - 1); o = s .o }) (spentPairs s pick)
+  one-spent l = sym (ap (λ (b : List ℕ). record { b = b; o = s .o }) (one-of-sixteen l))
+
+-- ---- time has passed up to i
+pub record PassedTo (T B b o : List ℕ) (i : ℕ) (s : State) : Type 0 where
+  pub b-is : s .b ≡ filled i (nextB B b o) b
+  pub o-is : s .o ≡ filled i (nextO T o) o
+  pub b-long : length (s .b) ≡ 16
+  pub o-long : length (s .o) ≡ 16
+
+module _ (T B : List ℕ) where
+  pub pass-begins : (s : State) → length (s .b) ≡ 16 → length (s .o) ≡ 16 → PassedTo T B (s .b) (s .o) 0 s
+  unfolding filled
+  pass-begins s bs os = record { b-is = refl; o-is = refl; b-long = bs; o-long = os }
+
+  module _ (b o : List ℕ) (i : ℕ) (s : State) (here : PassedTo T B b o i s) where
+    b-still : s .b ! i ≡ b ! i
+    b-still = ap (λ (xs : List ℕ). xs ! i) (here .b-is) ∙ filled-beyond i (nextB B b o) b i (le-refl i)
+
+    o-still : s .o ! i ≡ o ! i
+    o-still = ap (λ (xs : List ℕ). xs ! i) (here .o-is) ∙ filled-beyond i (nextO T o) o i (le-refl i)
+
+    pub pass-on : (x y : ℕ) → x ≡ cond (eqb (s .o ! i - 1) 0) (B ! i) (s .b ! i) → y ≡ cond (eqb (s .o ! i - 1) 0) (T ! i) (s .o ! i - 1)
+        → PassedTo T B b o (i + 1) (record { b = set (s .b) i x; o = set (s .o) i y })
+    unfolding nextB nextO replenishes
+    pass-on x y e d =
+        record {
+          b-is = filled-next (nextB B b o) b (s .b) i x (here .b-is) (e ∙ (λ j. cond (eqb (o-still j - 1) 0) (B ! i) (b-still j)));
+          o-is = filled-next (nextO T o) o (s .o) i y (here .o-is) (d ∙ (λ j. cond (eqb (o-still j - 1) 0) (T ! i) (o-still j - 1)));
+          b-long = length-set (s .b) i x ∙ here .b-long;
+          o-long = length-set (s .o) i y ∙ here .o-long;
+        }
+
+    pub pass-ends : (n : ℕ) → n ≤ i → i ≤ n → _≡_ {A = Pairs} (record { b = s .b; o = s .o }) (passTime n T B b o)
+    unfolding passTime
+    pass-ends n l k =
+        (λ j. record { b = here .b-is j; o = here .o-is j })
+        ∙ ap (λ m. record { b = filled m (nextB B b o) b; o = filled m (nextO T o) o }) (le-antisymm k l)
+
+-- ---- and both are the tick
+pub tick-is : (n : ℕ) (T B : List ℕ) (s spent r : State) (pick : ℕ) → _≡_ {A = Pairs} (record { b = spent .b; o = spent .o }) (spentPairs s pick)
+    → _≡_ {A = Pairs} (record { b = r .b; o = r .o }) (passTime n T B (spent .b) (spent .o)) → _≡_ {A = Pairs} (record { b = r .b; o = r .o }) (tick n T B (s .b) (s .o) pick)
+unfolding tick
+tick-is n T B s spent r pick e d = d ∙ ap (λ (p : Pairs). passTime n T B (p .b) (p .o)) e

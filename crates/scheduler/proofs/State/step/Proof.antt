@@ -1,0 +1,42 @@
+use borrow.Author.Needs.{needs}
+use Rattle.ranges.proofs.Outcomes.{few-of-state}
+use Rattle.scheduler.proofs.Calls.{step-refused, step-made}
+use Rattle.scheduler.proofs.State.step.Statement.{statement}
+use Rattle.scheduler.proofs.State.step.Tie as tie
+
+judge-requires : tie.Need-judge-requires
+judge-requires c κs = search needs
+
+enum-known-judged : tie.Need-enum-known-judged
+enum-known-judged c = search needs
+
+returns : tie.Need-returns
+returns c = step-refused _ _ _ (c .before .before .before .judge .ensures) _ _ (c .before .judged .given .1)
+
+enum-told : tie.Need-enum-told
+enum-told c = search needs
+
+choose-requires : tie.Need-choose-requires
+choose-requires c κs = search needs
+
+cast-ticked : tie.Need-cast-ticked
+cast-ticked c = search needs
+
+ticked-requires : tie.Need-ticked-requires
+ticked-requires c κs = few-of-state _ _ _ _ _ _ _ (c .before .before .before .before .before .before .before .before .before .before .before .before .judge .ensures) (c .before .before .before .before .before .before .before .before .before .before .enum-told .given .1)
+
+returns-2 : tie.Need-returns-2
+returns-2 c = step-made _ _ _ (c .before .before .before .before .before .before .before .before .before .before .before .before .before .judge .ensures) (c .before .before .before .before .before .before .before .before .before .before .before .enum-told .given .1) _ _ _ (c .before .before .before .before .choose .ensures) (c .ticked .ensures)
+
+pub step-spec : {M : Type 1} → statement M
+step-spec =
+    tie.close
+    (tie.spec
+    judge-requires
+    enum-known-judged
+    returns
+    enum-told
+    choose-requires
+    cast-ticked
+    ticked-requires
+    returns-2)

@@ -1,0 +1,13 @@
+use borrow.Author.Needs.{needs}
+use Rattle.scheduler.proofs.Pairs.{at-zero, not-at-zero}
+use Rattle.scheduler.proofs.fresh_o.Statement.{statement}
+use Rattle.scheduler.proofs.fresh_o.Tie as tie
+
+returns : tie.Need-returns
+returns c = search (needs, at-zero)
+
+returns-2 : tie.Need-returns-2
+returns-2 c = search (needs, not-at-zero)
+
+pub fresh-o-spec : {M : Type 1} → statement M
+fresh-o-spec = tie.close (tie.spec returns returns-2)

@@ -1,0 +1,4 @@
+-- the state as two lists
+pub mod States
+-- what each public function promises
+pub mod Promises
