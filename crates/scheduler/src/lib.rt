@@ -1,13 +1,16 @@
 // The scheduler's state, and what changes it: fresh start, tick, release, a step by a word, and a run over words.
 ghost use mathlib.Core.Path.{_≡_};
 ghost use mathlib.Core.Bool.{cond};
+ghost use mathlib.Core.List.{[], _∷_};
 ghost use Prim.Native.Nat.{_-_, _≤_};
 ghost use lib.Dec.{eqb};
 ghost use lib.ListN as Seq;
 ghost use Rattle.rules.specs.FreshStart.{freshStart};
 ghost use Rattle.rules.specs.Tick.{passTime, tick};
+ghost use Rattle.rules.specs.Refusals.{refusal};
+ghost use Rattle.ranges.specs.Verdicts.{verdictAs};
 ghost use Rattle.scheduler.specs.States.{pairs, spentPairs};
-ghost use Rattle.scheduler.specs.Promises.{FreshIs, TickIs, ReleaseIs, StepIs, RunIs, Filled};
+ghost use Rattle.scheduler.specs.Promises.{table, state, FreshIs, TickIs, ReleaseIs, StepIs, RunIs, Filled};
 use candidates::member;
 use draw::Decision;
 use draw::choose;
@@ -124,6 +127,13 @@ impl State {
         }
     }
 
+    // Refusals 1 and 3.
+    fn judged(self, t: Table) -> Verdict
+        ensures { λ r. ⌜ verdictAs r ≡ refusal (table t self ∷ state t self ∷ []) ⌝ }
+    {
+        judge(t.count, &t.period, &t.budget, &t.phase, &self.b, &self.o)
+    }
+
     // A picked partition loses one of b. Idle stands beyond the sixteen.
     fn spent(mut self, pick: usize) -> State
         ensures { λ r. ⌜ pairs r ≡ spentPairs self pick ⌝ }
@@ -172,8 +182,8 @@ impl State {
         ensures { λ r. ⌜ TickIs t self pick r ⌝ }
     {
         let n = t.count;
-        let judged = judge(n, &t.period, &t.budget, &t.phase, &self.b, &self.o);
-        if let Verdict::Refused(r) = judged {
+        let verdict = self.judged(t);
+        if let Verdict::Refused(r) = verdict {
             return Changed {
                 state: self,
                 verdict: Verdict::Refused(r),
@@ -197,8 +207,8 @@ impl State {
         ensures { λ r. ⌜ ReleaseIs t self index r ⌝ }
     {
         let n = t.count;
-        let judged = judge(n, &t.period, &t.budget, &t.phase, &self.b, &self.o);
-        if let Verdict::Refused(r) = judged {
+        let verdict = self.judged(t);
+        if let Verdict::Refused(r) = verdict {
             return Changed {
                 state: self,
                 verdict: Verdict::Refused(r),
@@ -228,8 +238,8 @@ impl State {
         ensures { λ r. ⌜ StepIs t self word r ⌝ }
     {
         let n = t.count;
-        let judged = judge(n, &t.period, &t.budget, &t.phase, &self.b, &self.o);
-        if let Verdict::Refused(r) = judged {
+        let verdict = self.judged(t);
+        if let Verdict::Refused(r) = verdict {
             return Stepped {
                 state: self,
                 decision: Decision::Refused(r),
@@ -269,8 +279,8 @@ impl State {
         ensures { λ r. ⌜ RunIs t self (now (words .entry)) (now (picks .entry)) r (now (picks .exit)) ⌝ }
     {
         let n = t.count;
-        let judged = judge(n, &t.period, &t.budget, &t.phase, &self.b, &self.o);
-        if let Verdict::Refused(r) = judged {
+        let verdict = self.judged(t);
+        if let Verdict::Refused(r) = verdict {
             return Changed {
                 state: self,
                 verdict: Verdict::Refused(r),

@@ -4,36 +4,36 @@ use Rattle.scheduler.proofs.Calls.{run-refused, run-short, run-made}
 use Rattle.scheduler.proofs.State.run.Statement.{statement}
 use Rattle.scheduler.proofs.State.run.Tie as tie
 
-judge-requires : tie.Need-judge-requires
-judge-requires c κs = search needs
+judged-requires : tie.Need-judged-requires
+judged-requires c κs = search needs
 
-enum-known-judged : tie.Need-enum-known-judged
-enum-known-judged c = search needs
+enum-known-verdict : tie.Need-enum-known-verdict
+enum-known-verdict c = search needs
 
 returns : tie.Need-returns
-returns c = run-refused _ _ _ (c .before .before .before .judge .ensures) (c .before .before .before .before .before .before .before .before .before .before .before .before .before .args .words .now) _ _ (c .before .judged .given .1)
+returns c = run-refused _ _ _ (c .before .before .before .judged .ensures) (c .before .before .before .before .before .before .args .words .now) _ _ (c .before .verdict .given .1)
 
 enum-told : tie.Need-enum-told
 enum-told c = search needs
 
 returns-2 : tie.Need-returns-2
-returns-2 c = run-short _ _ _ (c .before .before .before .judge .ensures) (c .before .enum-told .given .1) (c .before .before .before .before .before .before .before .before .before .before .before .before .before .args .words .now) _ (c .if1 .taken)
+returns-2 c = run-short _ _ _ (c .before .before .before .judged .ensures) (c .before .enum-told .given .1) (c .before .before .before .before .before .before .args .words .now) _ (c .if1 .taken)
 
 ran-requires : tie.Need-ran-requires
-ran-requires c κs = (few-of-state _ _ _ _ _ _ _ (c .before .before .before .before .before .before .before .judge .ensures) (c .before .before .before .before .before .enum-told .given .1), c .before .before .before .before .if1 .left)
+ran-requires c κs = (few-of-state _ _ _ _ _ _ _ (c .before .before .before .before .before .before .before .judged .ensures) (c .before .before .before .before .before .enum-told .given .1), c .before .before .before .before .if1 .left)
 
 same-length : tie.Need-same-length
 same-length c = search needs
 
 returns-3 : tie.Need-returns-3
-returns-3 c = run-made _ _ _ (c .before .before .before .before .before .before .before .before .before .before .judge .ensures) (c .before .before .before .before .before .before .before .before .enum-told .given .1) _ _ _ _ (c .before .before .before .before .before .before .before .if1 .left) (c .before .before .ran .ensures)
+returns-3 c = run-made _ _ _ (c .before .before .before .before .before .before .before .before .before .before .judged .ensures) (c .before .before .before .before .before .before .before .before .enum-told .given .1) _ _ _ _ (c .before .before .before .before .before .before .before .if1 .left) (c .before .before .ran .ensures)
 
 pub run-spec : {M : Type 1} → statement M
 run-spec =
     tie.close
     (tie.spec
-    judge-requires
-    enum-known-judged
+    judged-requires
+    enum-known-verdict
     returns
     enum-told
     returns-2

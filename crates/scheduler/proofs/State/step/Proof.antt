@@ -4,14 +4,14 @@ use Rattle.scheduler.proofs.Calls.{step-refused, step-made}
 use Rattle.scheduler.proofs.State.step.Statement.{statement}
 use Rattle.scheduler.proofs.State.step.Tie as tie
 
-judge-requires : tie.Need-judge-requires
-judge-requires c κs = search needs
+judged-requires : tie.Need-judged-requires
+judged-requires c κs = search needs
 
-enum-known-judged : tie.Need-enum-known-judged
-enum-known-judged c = search needs
+enum-known-verdict : tie.Need-enum-known-verdict
+enum-known-verdict c = search needs
 
 returns : tie.Need-returns
-returns c = step-refused _ _ _ (c .before .before .before .judge .ensures) _ _ (c .before .judged .given .1)
+returns c = step-refused _ _ _ (c .before .before .before .judged .ensures) _ _ (c .before .verdict .given .1)
 
 enum-told : tie.Need-enum-told
 enum-told c = search needs
@@ -23,17 +23,17 @@ cast-ticked : tie.Need-cast-ticked
 cast-ticked c = search needs
 
 ticked-requires : tie.Need-ticked-requires
-ticked-requires c κs = few-of-state _ _ _ _ _ _ _ (c .before .before .before .before .before .before .before .before .before .before .before .before .judge .ensures) (c .before .before .before .before .before .before .before .before .before .before .enum-told .given .1)
+ticked-requires c κs = few-of-state _ _ _ _ _ _ _ (c .before .before .before .before .before .before .before .before .before .before .before .before .judged .ensures) (c .before .before .before .before .before .before .before .before .before .before .enum-told .given .1)
 
 returns-2 : tie.Need-returns-2
-returns-2 c = step-made _ _ _ (c .before .before .before .before .before .before .before .before .before .before .before .before .before .judge .ensures) (c .before .before .before .before .before .before .before .before .before .before .before .enum-told .given .1) _ _ _ (c .before .before .before .before .choose .ensures) (c .ticked .ensures)
+returns-2 c = step-made _ _ _ (c .before .before .before .before .before .before .before .before .before .before .before .before .before .judged .ensures) (c .before .before .before .before .before .before .before .before .before .before .before .enum-told .given .1) _ _ _ (c .before .before .before .before .choose .ensures) (c .ticked .ensures)
 
 pub step-spec : {M : Type 1} → statement M
 step-spec =
     tie.close
     (tie.spec
-    judge-requires
-    enum-known-judged
+    judged-requires
+    enum-known-verdict
     returns
     enum-told
     choose-requires

@@ -4,14 +4,14 @@ use Rattle.scheduler.proofs.Calls.{tick-refused, tick-unlisted, tick-ma
 use Rattle.scheduler.proofs.State.tick.Statement.{statement}
 use Rattle.scheduler.proofs.State.tick.Tie as tie
 
-judge-requires : tie.Need-judge-requires
-judge-requires c κs = search needs
+judged-requires : tie.Need-judged-requires
+judged-requires c κs = search needs
 
-enum-known-judged : tie.Need-enum-known-judged
-enum-known-judged c = search needs
+enum-known-verdict : tie.Need-enum-known-verdict
+enum-known-verdict c = search needs
 
 returns : tie.Need-returns
-returns c = tick-refused _ _ _ (c .before .before .before .judge .ensures) _ _ (c .before .judged .given .1)
+returns c = tick-refused _ _ _ (c .before .before .before .judged .ensures) _ _ (c .before .verdict .given .1)
 
 enum-told : tie.Need-enum-told
 enum-told c = search needs
@@ -20,20 +20,20 @@ member-requires : tie.Need-member-requires
 member-requires c κs = search needs
 
 returns-2 : tie.Need-returns-2
-returns-2 c = tick-unlisted _ _ _ (c .before .before .before .before .before .before .before .before .before .before .judge .ensures) (c .before .before .before .before .before .before .before .before .enum-told .given .1) _ _ (c .before .member .ensures) (c .if1 .taken)
+returns-2 c = tick-unlisted _ _ _ (c .before .before .before .before .before .before .before .before .before .before .judged .ensures) (c .before .before .before .before .before .before .before .before .enum-told .given .1) _ _ (c .before .member .ensures) (c .if1 .taken)
 
 ticked-requires : tie.Need-ticked-requires
-ticked-requires c κs = few-of-state _ _ _ _ _ _ _ (c .before .before .before .before .before .before .before .before .before .before .before .before .before .judge .ensures) (c .before .before .before .before .before .before .before .before .before .before .before .enum-told .given .1)
+ticked-requires c κs = few-of-state _ _ _ _ _ _ _ (c .before .before .before .before .before .before .before .before .before .before .before .before .before .judged .ensures) (c .before .before .before .before .before .before .before .before .before .before .before .enum-told .given .1)
 
 returns-3 : tie.Need-returns-3
-returns-3 c = tick-made _ _ _ (c .before .before .before .before .before .before .before .before .before .before .before .before .before .before .judge .ensures) (c .before .before .before .before .before .before .before .before .before .before .before .before .enum-told .given .1) _ _ _ (c .before .before .before .before .before .member .ensures) (c .before .before .before .before .if1 .left) (c .ticked .ensures)
+returns-3 c = tick-made _ _ _ (c .before .before .before .before .before .before .before .before .before .before .before .before .before .before .judged .ensures) (c .before .before .before .before .before .before .before .before .before .before .before .before .enum-told .given .1) _ _ _ (c .before .before .before .before .before .member .ensures) (c .before .before .before .before .if1 .left) (c .ticked .ensures)
 
 pub tick-spec : {M : Type 1} → statement M
 tick-spec =
     tie.close
     (tie.spec
-    judge-requires
-    enum-known-judged
+    judged-requires
+    enum-known-verdict
     returns
     enum-told
     member-requires
