@@ -2,3 +2,5 @@
 pub mod Outcome
 -- the code's verdict, read as 01's refusals
 pub mod Verdicts
+-- what each public function promises
+pub mod Promises

@@ -1,12 +1,10 @@
 // What is in range: a table and the pairs of a state, judged and refused by number.
 ghost use mathlib.Core.Path.{_≡_};
 ghost use mathlib.Core.Bool.{_&&_};
-ghost use mathlib.Core.List.{[], _∷_};
 ghost use Prim.Native.Nat.{_<_};
 ghost use Rattle.basis.specs.Words.{_!_, within};
 ghost use Rattle.rules.specs.Numbers.{partitionInRange, pairInRange};
-ghost use Rattle.rules.specs.Refusals.{badTable, badTableOrIndex, badState, refusal};
-ghost use Rattle.ranges.specs.Verdicts.{verdictAs};
+ghost use Rattle.ranges.specs.Promises.{JudgeTableIs, JudgeIndexIs, JudgeStateIs, JudgeIs};
 use rules::Refusal;
 
 // Nothing against it, or why it is refused.
@@ -74,7 +72,7 @@ pub fn judge_table<'t>(
     budget: &'t [u16; 16],
     phase: &'t [u16; 16],
 ) -> Verdict
-    ensures { λ r. ⌜ verdictAs r ≡ refusal (badTable n (now (period .entry)) (now (budget .entry)) (now (phase .entry)) ∷ []) ⌝ }
+    ensures { λ r. ⌜ JudgeTableIs n (now (period .entry)) (now (budget .entry)) (now (phase .entry)) r ⌝ }
 {
     if n == 0 {
         return Verdict::Refused(Refusal::BadPartition(0));
@@ -98,7 +96,7 @@ pub fn judge_index<'t>(
     phase: &'t [u16; 16],
     h: usize,
 ) -> Verdict
-    ensures { λ r. ⌜ verdictAs r ≡ refusal (badTableOrIndex n (now (period .entry)) (now (budget .entry)) (now (phase .entry)) h ∷ []) ⌝ }
+    ensures { λ r. ⌜ JudgeIndexIs n (now (period .entry)) (now (budget .entry)) (now (phase .entry)) h r ⌝ }
 {
     let table = judge_table(n, period, budget, phase);
     if let Verdict::Refused(r) = table {
@@ -118,7 +116,7 @@ pub fn judge_state<'t, 's>(
     b: &'s [u16; 16],
     o: &'s [u16; 16],
 ) -> Verdict
-    ensures { λ r. ⌜ verdictAs r ≡ refusal (badState n (now (period .entry)) (now (budget .entry)) (now (b .entry)) (now (o .entry)) ∷ []) ⌝ }
+    ensures { λ r. ⌜ JudgeStateIs n (now (period .entry)) (now (budget .entry)) (now (b .entry)) (now (o .entry)) r ⌝ }
 {
     for i in 0..16 {
         if !pair_at_in_range(n, period, budget, b, o, i) {
@@ -137,8 +135,7 @@ pub fn judge<'t, 's>(
     b: &'s [u16; 16],
     o: &'s [u16; 16],
 ) -> Verdict
-    ensures { λ r. ⌜ verdictAs r ≡ refusal (badTable n (now (period .entry)) (now (budget .entry)) (now (phase .entry))
-        ∷ badState n (now (period .entry)) (now (budget .entry)) (now (b .entry)) (now (o .entry)) ∷ []) ⌝ }
+    ensures { λ r. ⌜ JudgeIs n (now (period .entry)) (now (budget .entry)) (now (phase .entry)) (now (b .entry)) (now (o .entry)) r ⌝ }
 {
     let table = judge_table(n, period, budget, phase);
     if let Verdict::Refused(r) = table {

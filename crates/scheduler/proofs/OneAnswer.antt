@@ -1,0 +1,185 @@
+-- Any two results that a promise allows are equal: answer, state and lent memory. A theorem for each public function, over the promise that its `ensures` cites.
+use Prim.Native.Nat.{ℕ}
+use mathlib.Core.Path.{_≡_, refl, sym, _∙_, ap}
+use mathlib.Core.Bool.{Bool}
+use mathlib.Core.List.{List}
+use mathlib.Core.Option.{Option, some, none}
+use native.Mathlib.Omega.{arith}
+use Rattle.rules.specs.Refusals.{Refused}
+use Rattle.rules.specs.declared.Table.{Table}
+use Rattle.laws.proofs.Tests.{none-is-some, some-is-none}
+use Rattle.laws.proofs.Refusals.{refused-injective}
+use Rattle.ranges.specs.Outcome.{Outcome, refused, gives}
+use Rattle.ranges.specs.Verdicts.{verdictAs}
+use Rattle.ranges.specs.Promises.{JudgeTableIs, JudgeIndexIs, JudgeStateIs, JudgeIs}
+use Rattle.ranges.specs.declared.Verdict.{Verdict}
+use Rattle.ranges.specs.declared.Verdict.the-variants as verdict
+use Rattle.busy.specs.Spans.{spanAs}
+use Rattle.busy.specs.Promises.{BusyLengthIs, PassesIs}
+use Rattle.busy.specs.declared.Span.{Span}
+use Rattle.busy.specs.declared.Span.the-variants as span
+use Rattle.standing.specs.Answers.{testAs, lengthAs}
+use Rattle.standing.specs.Promises.{AdmissionIs, ResponseIs, BusyTestIs, StandingIs}
+use Rattle.standing.specs.declared.Test.{Test}
+use Rattle.standing.specs.declared.Test.the-variants as test
+use Rattle.standing.specs.declared.Length.{Length}
+use Rattle.standing.specs.declared.Length.the-variants as length
+use Rattle.candidates.specs.Promises.{Listing, listedAs, SearchIs, MemberIs, CandidatesIs}
+use Rattle.candidates.specs.declared.Found.{Found}
+use Rattle.candidates.specs.declared.Listed.{Listed}
+use Rattle.draw.specs.Promises.{Weighing, weighedAs, decisionAs, ChooseIs, WeightsAre, DecideIs}
+use Rattle.draw.specs.declared.Weighed.{Weighed}
+use Rattle.draw.specs.declared.Decision.{Decision}
+use Rattle.draw.specs.declared.Decision.the-variants as decided
+use Rattle.scheduler.specs.Promises.{Change, changedAs, Step, steppedAs, Runs, ranAs, FreshIs, TickIs, ReleaseIs, StepIs, RunIs}
+use Rattle.scheduler.specs.declared.State.{State}
+use Rattle.scheduler.specs.declared.Changed.{Changed}
+use Rattle.scheduler.specs.declared.Stepped.{Stepped}
+
+-- ---- no two cases of an enum have the same number and values
+taken : {A : Type 0} {x y : A} → some x ≡ some y → x ≡ y
+taken e = cc
+
+refused-as : {A : Type 0} {x y : Refused} → _≡_ {A = Outcome A} (refused x) (refused y) → x ≡ y
+refused-as e = cc
+
+given-as : {A : Type 0} {x y : A} → gives x ≡ gives y → x ≡ y
+given-as e = cc
+
+never-both : {A C : Type 0} {x : A} {r : Refused} → gives x ≡ refused r → C
+never-both {A} {C} {x} {r} e = absurd (differ e)
+  where
+    said : Outcome A → ℕ
+    said (gives y) = 0
+    said (refused q) = 1
+
+    differ : gives x ≡ refused r → ⊥
+    differ p = let z : _≡_ {A = ℕ} 0 1 = ap said p in omega arith
+
+pub verdict-injective : (r s : Verdict) → verdictAs r ≡ verdictAs s → r ≡ s
+unfolding verdictAs
+verdict-injective verdict.Good verdict.Good e = refl
+verdict-injective verdict.Good (verdict.Refused q) e = none-is-some e
+verdict-injective (verdict.Refused p) verdict.Good e = some-is-none e
+verdict-injective (verdict.Refused p) (verdict.Refused q) e = ap verdict.Refused (refused-injective p q (taken e))
+
+pub span-injective : (r s : Span) → spanAs r ≡ spanAs s → r ≡ s
+span-injective (span.Within x) (span.Within y) e = ap span.Within (taken e)
+span-injective (span.Within x) span.Over e = some-is-none e
+span-injective span.Over (span.Within y) e = none-is-some e
+span-injective span.Over span.Over e = refl
+
+pub test-injective : (r s : Test) → testAs r ≡ testAs s → r ≡ s
+test-injective test.Passes test.Passes e = refl
+test-injective test.Passes (test.Fails h) e = none-is-some (given-as e)
+test-injective test.Passes (test.Refused q) e = never-both e
+test-injective (test.Fails h) test.Passes e = some-is-none (given-as e)
+test-injective (test.Fails h) (test.Fails k) e = ap test.Fails (taken (given-as e))
+test-injective (test.Fails h) (test.Refused q) e = never-both e
+test-injective (test.Refused p) test.Passes e = never-both (sym e)
+test-injective (test.Refused p) (test.Fails k) e = never-both (sym e)
+test-injective (test.Refused p) (test.Refused q) e = ap test.Refused (refused-injective p q (refused-as e))
+
+pub length-injective : (r s : Length) → lengthAs r ≡ lengthAs s → r ≡ s
+length-injective (length.Within x) (length.Within y) e = ap length.Within (taken (given-as e))
+length-injective (length.Within x) length.Over e = some-is-none (given-as e)
+length-injective (length.Within x) (length.Refused q) e = never-both e
+length-injective length.Over (length.Within y) e = none-is-some (given-as e)
+length-injective length.Over length.Over e = refl
+length-injective length.Over (length.Refused q) e = never-both e
+length-injective (length.Refused p) (length.Within y) e = never-both (sym e)
+length-injective (length.Refused p) length.Over e = never-both (sym e)
+length-injective (length.Refused p) (length.Refused q) e = ap length.Refused (refused-injective p q (refused-as e))
+
+pub decision-injective : (r s : Decision) → decisionAs r ≡ decisionAs s → r ≡ s
+decision-injective (decided.Pick x) (decided.Pick y) e = ap decided.Pick (given-as e)
+decision-injective (decided.Pick x) (decided.Refused q) e = never-both e
+decision-injective (decided.Refused p) (decided.Pick y) e = never-both (sym e)
+decision-injective (decided.Refused p) (decided.Refused q) e = ap decided.Refused (refused-injective p q (refused-as e))
+
+-- ---- nor do two answers that hold an array or a state
+listed-injective : (r s : Listed) → listedAs r ≡ listedAs s → r ≡ s
+listed-injective r s e = λ i. record { list = e i .list; length = e i .length; verdict = verdict-injective (r .verdict) (s .verdict) (ap (λ (x : Listing). x .refused) e) i }
+
+weighed-injective : (r s : Weighed) → weighedAs r ≡ weighedAs s → r ≡ s
+weighed-injective r s e =
+    λ i. record { list = e i .list; weights = e i .weights; length = e i .length; verdict = verdict-injective (r .verdict) (s .verdict) (ap (λ (x : Weighing). x .refused) e) i }
+
+changed-injective : (r s : Changed) → changedAs r ≡ changedAs s → r ≡ s
+changed-injective r s e =
+    λ i. record { state = record { b = e i .after .b; o = e i .after .o }; verdict = verdict-injective (r .verdict) (s .verdict) (ap (λ (x : Change). x .refused) e) i }
+
+stepped-injective : (r s : Stepped) → steppedAs r ≡ steppedAs s → r ≡ s
+stepped-injective r s e =
+    λ i. record { state = record { b = e i .after .b; o = e i .after .o }; decision = decision-injective (r .decision) (s .decision) (ap (λ (x : Step). x .says) e) i }
+
+ran-injective : (r s : Changed) (x y : List ℕ) → ranAs r x ≡ ranAs s y → r ≡ s
+ran-injective r s x y e = changed-injective r s (λ i. record { after = e i .after; refused = e i .refused })
+
+-- ---- the theorems, crate by crate
+module _ (n : ℕ) (T B phase b o : List ℕ) where
+  pub judge-table-one : (r s : Verdict) → JudgeTableIs n T B phase r → JudgeTableIs n T B phase s → r ≡ s
+  judge-table-one r s p q = verdict-injective r s (p ∙ sym q)
+
+  pub judge-index-one : (h : ℕ) (r s : Verdict) → JudgeIndexIs n T B phase h r → JudgeIndexIs n T B phase h s → r ≡ s
+  judge-index-one h r s p q = verdict-injective r s (p ∙ sym q)
+
+  pub judge-state-one : (r s : Verdict) → JudgeStateIs n T B b o r → JudgeStateIs n T B b o s → r ≡ s
+  judge-state-one r s p q = verdict-injective r s (p ∙ sym q)
+
+  pub judge-one : (r s : Verdict) → JudgeIs n T B phase b o r → JudgeIs n T B phase b o s → r ≡ s
+  judge-one r s p q = verdict-injective r s (p ∙ sym q)
+
+  pub busy-length-one : (h w : ℕ) (r s : Span) → BusyLengthIs T B b o h w r → BusyLengthIs T B b o h w s → r ≡ s
+  busy-length-one h w r s p q = span-injective r s (p ∙ sym q)
+
+  pub passes-one : (h w : ℕ) (r s : Bool) → PassesIs T B b o h w r → PassesIs T B b o h w s → r ≡ s
+  passes-one h w r s p q = p ∙ sym q
+
+  pub search-one : (r s : Found) → SearchIs n T B b o r → SearchIs n T B b o s → r ≡ s
+  search-one r s p q = λ i. record { list = (p .list ∙ sym (q .list)) i; length = (p .length ∙ sym (q .length)) i }
+
+  pub member-one : (pick : ℕ) (r s : Bool) → MemberIs n T B b o pick r → MemberIs n T B b o pick s → r ≡ s
+  member-one pick r s p q = p ∙ sym q
+
+  pub choose-one : (word r s : ℕ) → ChooseIs n T B b o word r → ChooseIs n T B b o word s → r ≡ s
+  choose-one word r s p q = p ∙ sym q
+
+module _ (t : Table) (b o : List ℕ) where
+  pub admission-one : (r s : Test) → AdmissionIs t r → AdmissionIs t s → r ≡ s
+  admission-one r s p q = test-injective r s (p ∙ sym q)
+
+  pub response-one : (h : ℕ) (r s : Length) → ResponseIs t h r → ResponseIs t h s → r ≡ s
+  response-one h r s p q = length-injective r s (p ∙ sym q)
+
+  pub busy-test-one : (h w : ℕ) (r s : Length) → BusyTestIs t b o h w r → BusyTestIs t b o h w s → r ≡ s
+  busy-test-one h w r s p q = length-injective r s (p ∙ sym q)
+
+  pub standing-one : (r s : Test) → StandingIs t b o r → StandingIs t b o s → r ≡ s
+  standing-one r s p q = test-injective r s (p ∙ sym q)
+
+  pub candidates-one : (r s : Listed) → CandidatesIs t b o r → CandidatesIs t b o s → r ≡ s
+  candidates-one r s p q = listed-injective r s (p ∙ sym q)
+
+  pub weights-one : (r s : Weighed) → WeightsAre t b o r → WeightsAre t b o s → r ≡ s
+  weights-one r s p q = weighed-injective r s (p ∙ sym q)
+
+  pub decide-one : (words : List ℕ) (r s : Decision) → DecideIs t b o words r → DecideIs t b o words s → r ≡ s
+  decide-one words r s p q = decision-injective r s (p ∙ sym q)
+
+module _ (t : Table) (now : State) where
+  pub fresh-one : (r s : Changed) → FreshIs t now r → FreshIs t now s → r ≡ s
+  fresh-one r s p q = changed-injective r s (p ∙ sym q)
+
+  pub tick-one : (pick : ℕ) (r s : Changed) → TickIs t now pick r → TickIs t now pick s → r ≡ s
+  tick-one pick r s p q = changed-injective r s (p ∙ sym q)
+
+  pub release-one : (i : ℕ) (r s : Changed) → ReleaseIs t now i r → ReleaseIs t now i s → r ≡ s
+  release-one i r s p q = changed-injective r s (p ∙ sym q)
+
+  pub step-one : (word : ℕ) (r s : Stepped) → StepIs t now word r → StepIs t now word s → r ≡ s
+  step-one word r s p q = stepped-injective r s (p ∙ sym q)
+
+  -- the state and the verdict, and the buffer
+  pub run-one : (words buffer : List ℕ) (r s : Changed) (x y : List ℕ) → RunIs t now words buffer r x → RunIs t now words buffer s y → (r ≡ s) × (x ≡ y)
+  run-one words buffer r s x y p q = (ran-injective r s x y (p ∙ sym q), ap (λ (z : Runs). z .buffer) (p ∙ sym q))

@@ -1,0 +1,84 @@
+-- A step is a decision and then its tick: what `step` gives is what `decide` over its one word and `tick` for that pick give.
+use Prim.Native.Nat.{ℕ}
+use mathlib.Core.Path.{_≡_, refl, sym, _∙_, ap}
+use mathlib.Core.Bool.{Bool, true}
+use mathlib.Core.List.{List, [], _∷_}
+use mathlib.Core.Option.{Option, some, none}
+use lib.ListN.{length}
+use Rattle.basis.specs.Words.{unless}
+use Rattle.rules.specs.Numbers.{Pairs, firstBadPartition, firstBadPair}
+use Rattle.rules.specs.Pick.{decision}
+use Rattle.rules.specs.Tick.{tick, tickAllowed}
+use Rattle.rules.specs.Refusals.{Refused, ground, notListed, refusal}
+use Rattle.rules.specs.declared.Table.{Table}
+use Rattle.laws.proofs.Pick.{decision-allowed}
+use Rattle.ranges.specs.Outcome.{Outcome, refused, gives, unlessRefused}
+use Rattle.ranges.specs.Verdicts.{verdictAs}
+use Rattle.ranges.specs.declared.Verdict.the-variants as verdict
+use Rattle.ranges.proofs.Verdicts.{Late, four, five, first-two, third-after, neither}
+use Rattle.draw.specs.Promises.{decisionAs, DecideIs}
+use Rattle.draw.specs.declared.Decision.{Decision}
+use Rattle.scheduler.specs.States.{pairs}
+use Rattle.scheduler.specs.Promises.{Change, change, Step, stepped, steppedAs, changedAs, table, state, TickIs, StepIs}
+use Rattle.scheduler.specs.declared.State.{State}
+use Rattle.scheduler.specs.declared.Changed.{Changed}
+use Rattle.scheduler.specs.declared.Stepped.{Stepped}
+use Rattle.scheduler.proofs.OneAnswer.{decision-injective, verdict-injective}
+
+-- a third ground that does not apply changes nothing
+no-third : (x y : Option ℕ) {k : ℕ} → Late k → refusal (ground 1 x ∷ ground 3 y ∷ ground k none ∷ []) ≡ refusal (ground 1 x ∷ ground 3 y ∷ [])
+no-third x y {k} late = go (refusal (ground 1 x ∷ ground 3 y ∷ [])) refl
+  where
+    go : (r : Option Refused) → refusal (ground 1 x ∷ ground 3 y ∷ []) ≡ r → refusal (ground 1 x ∷ ground 3 y ∷ ground k none ∷ []) ≡ r
+    go none e = third-after x y none late e
+    go (some r) e = first-two x y none late r e
+
+module _ (t : Table) (s : State) (word : ℕ) (r : Stepped) (made : StepIs t s word r) where
+  abbrev picked : ℕ
+  picked = decision (t .count) (t .period) (t .budget) (s .b) (s .o) word
+
+  abbrev next : Pairs
+  next = tick (t .count) (t .period) (t .budget) (s .b) (s .o) picked
+
+  -- what a step says is what a decision over its word says
+  said : (x : Option Refused) → stepped x (pairs s) next picked .says ≡ unlessRefused x picked
+  unfolding stepped unlessRefused
+  said none = refl
+  said (some q) = refl
+
+  pub step-decides : (d : Decision) → DecideIs t (s .b) (s .o) (word ∷ []) d → r .decision ≡ d
+  step-decides d decided =
+      decision-injective (r .decision) d
+      (ap (λ (x : Step). x .says) made ∙ said (refusal (table t s ∷ state t s ∷ [])) ∙ ap (λ (x : Option Refused). unlessRefused x picked) (sym (no-third _ _ four)) ∙ sym decided)
+
+  -- where it isn't refused, the tick for its pick isn't either, and gives the same state
+  module _ (bs : length (s .b) ≡ 16) (os : length (s .o) ≡ 16) (fine : refusal (table t s ∷ state t s ∷ []) ≡ none) where
+    fine-both : (firstBadPartition (t .count) (t .period) (t .budget) (t .phase) ≡ none) × (firstBadPair (t .count) (t .period) (t .budget) (s .b) (s .o) ≡ none)
+    fine-both = neither _ _ fine
+
+    allowed : tickAllowed (t .count) (t .period) (t .budget) (s .b) (s .o) picked ≡ true
+    allowed =
+        decision-allowed (t .count) (t .period) (t .budget) (t .phase) (s .b) (s .o) (fine-both .0)
+        (record { budgets = bs; offsets = os; pairs = fine-both .1 }) word
+
+    ticks : refusal (table t s ∷ state t s ∷ notListed (t .count) (t .period) (t .budget) (s .b) (s .o) picked ∷ []) ≡ none
+    ticks =
+        ap (λ (a : Bool). refusal (table t s ∷ state t s ∷ ground 5 (unless a picked) ∷ [])) allowed ∙ no-third _ _ five ∙ fine
+
+    after-tick : (x : Option Refused) → x ≡ none → change x (pairs s) next ≡ record { after = next; refused = none }
+    unfolding change
+    after-tick x e = ap (λ (y : Option Refused). change y (pairs s) next) e
+
+    after-step : (x : Option Refused) → x ≡ none → stepped x (pairs s) next picked .after ≡ next
+    unfolding stepped
+    after-step x e = ap (λ (y : Option Refused). stepped y (pairs s) next picked .after) e
+
+    pub step-ticks : (k : Changed) → TickIs t s picked k → (r .state ≡ k .state) × (k .verdict ≡ verdict.Good)
+    unfolding verdictAs
+    step-ticks k ticked = ((λ i. record { b = same i .b; o = same i .o }), verdict-injective (k .verdict) verdict.Good (ap (λ (x : Change). x .refused) whole))
+      where
+        whole : changedAs k ≡ record { after = next; refused = none }
+        whole = ticked ∙ after-tick _ ticks
+
+        same : pairs (r .state) ≡ pairs (k .state)
+        same = ap (λ (x : Step). x .after) made ∙ after-step _ fine ∙ sym (ap (λ (x : Change). x .after) whole)
