@@ -11,16 +11,16 @@ enum-known-judged : tie.Need-enum-known-judged
 enum-known-judged c = search needs
 
 returns : tie.Need-returns
-returns c = search (needs, hands-on, c .before .judged .given .1)
+returns c = hands-on _ _ _ _ (c .before .before .before .judge-table .ensures) (c .before .judged .given .1)
 
 enum-told : tie.Need-enum-told
 enum-told c = search needs
 
 first-failing-requires : tie.Need-first-failing-requires
-first-failing-requires c κs = search (needs, few-of-table, c .before .before .before .before .before .enum-told .given .1)
+first-failing-requires c κs = few-of-table _ _ _ _ _ (c .before .before .before .before .before .before .before .judge-table .ensures) (c .before .before .before .before .before .enum-told .given .1)
 
 returns-2 : tie.Need-returns-2
-returns-2 c = search (needs, admits, c .before .before .before .before .before .before .enum-told .given .1)
+returns-2 c = admits _ _ _ _ _ _ (c .before .before .before .before .before .before .before .before .judge-table .ensures) (c .before .before .before .before .before .before .enum-told .given .1) (c .first-failing .ensures)
 
 pub admission-spec : {M : Type 1} → statement M
 admission-spec =

@@ -11,7 +11,7 @@ enum-known-table : tie.Need-enum-known-table
 enum-known-table c = search needs
 
 returns : tie.Need-returns
-returns c = search (needs, hands-on-first, c .before .table .given .1)
+returns c = hands-on-first _ _ _ _ (c .before .before .before .judge-index .ensures) _ (c .before .table .given .1)
 
 enum-told : tie.Need-enum-told
 enum-told c = search needs
@@ -23,7 +23,7 @@ enum-known-state : tie.Need-enum-known-state
 enum-known-state c = search needs
 
 returns-2 : tie.Need-returns-2
-returns-2 c = search (needs, hands-on-second, c .before .state .given .1, c .before .before .before .before .before .before .before .enum-told .given .1)
+returns-2 c = hands-on-second _ _ _ _ (c .before .before .before .before .before .before .before .before .before .judge-index .ensures) (c .before .before .before .before .before .before .before .enum-told .given .1) _ (c .before .before .before .judge-state .ensures) _ (c .before .state .given .1)
 
 enum-told-2 : tie.Need-enum-told-2
 enum-told-2 c = search needs
@@ -35,7 +35,7 @@ answer-requires : tie.Need-answer-requires
 answer-requires c κs = search needs
 
 returns-3 : tie.Need-returns-3
-returns-3 c = search (needs, tested-busy, c .before .before .before .before .before .enum-told2 .given .1, c .before .before .before .before .before .before .before .before .before .before .before .enum-told .given .1)
+returns-3 c = tested-busy _ _ _ _ _ _ (c .before .before .before .before .before .before .before .before .before .before .before .before .before .judge-index .ensures) (c .before .before .before .before .before .before .before .before .before .before .before .enum-told .given .1) _ (c .before .busy-length .result) (c .answer .ensures) _ _ _ _ _ (c .before .before .before .before .before .before .before .judge-state .ensures) (c .before .before .before .before .before .enum-told2 .given .1) (c .before .busy-length .ensures)
 
 pub busy-test-spec : {M : Type 1} → statement M
 busy-test-spec =

@@ -11,7 +11,7 @@ enum-known-judged : tie.Need-enum-known-judged
 enum-known-judged c = search needs
 
 returns : tie.Need-returns
-returns c = search (needs, hands-on, c .before .judged .given .1)
+returns c = hands-on _ _ _ _ (c .before .before .before .judge-index .ensures) (c .before .judged .given .1)
 
 enum-told : tie.Need-enum-told
 enum-told c = search needs
@@ -23,7 +23,7 @@ answer-requires : tie.Need-answer-requires
 answer-requires c κs = search needs
 
 returns-2 : tie.Need-returns-2
-returns-2 c = search (needs, responds, c .before .before .before .before .before .before .before .enum-told .given .1)
+returns-2 c = responds _ _ _ _ _ _ (c .before .before .before .before .before .before .before .before .before .judge-index .ensures) (c .before .before .before .before .before .before .before .enum-told .given .1) _ (c .before .busy-length .result) (c .answer .ensures) (c .before .busy-length .ensures)
 
 pub response-spec : {M : Type 1} → statement M
 response-spec =
