@@ -6,7 +6,7 @@ use mathlib.Core.List.{List}
 use mathlib.Core.Logic.{_⊎_, inl, inr}
 use native.Mathlib.Nat.{le-refl, le-trans}
 use native.Mathlib.Omega.{arith}
-use borrow.Author.Tests.{eqb-true, eqb-false}
+use borrow.Author.Tests.{eqb-true, eqb-false, eq-eqb}
 use lib.Dec.{eqb}
 use lib.ListN.{length, set, length-set, getD-replicate}
 use lib.Seq.{getD-set-same, getD-set-other, set-out}
@@ -136,3 +136,8 @@ module _ (n : ℕ) (T B phase : List ℕ) (t : TableInRange n T B phase) where
   pub tick-in-range : (b o : List ℕ) (pick : ℕ) → StateInRange n T B b o → StateInRange n T B (tick n T B b o pick .b) (tick n T B b o pick .o)
   unfolding tick
   tick-in-range b o pick s = time-in-range (spend b pick) o (spend-in-range b o s pick)
+
+-- "The start counts as the replenishment of each phase 0 partition.": it has what a replenishment leaves
+pub fresh-as-replenished : (T B phase b o : List ℕ) (i : ℕ) → phase ! i ≡ 0 → replenishes o i ≡ true → (freshB B phase i ≡ nextB B b o i) × (freshO T phase i ≡ nextO T o i)
+unfolding freshB freshO nextB nextO
+fresh-as-replenished T B phase b o i e now = (rw (eq-eqb (phase ! i) 0 e, now), rw (eq-eqb (phase ! i) 0 e, now))
