@@ -137,7 +137,7 @@ fn busy<'t, 's>(
     settled(period, budget, o, counted(b[h], h), start, deadline)
 }
 
-// The busy length of `h` with inversion `w`, if it is at most the deadline. No partition is beyond the 16 places, and none there has one.
+// The same for any `h`: there are 16 places, and an index beyond them has no busy length.
 pub fn busy_length<'t, 's>(
     period: &'t [u16; 16],
     budget: &'t [u16; 16],

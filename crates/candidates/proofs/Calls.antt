@@ -1,23 +1,23 @@
 -- From the search to what the calls say.
-use Prim.Native.Nat.{ℕ, _+_, _≤_, _<_}
-use mathlib.Core.Path.{_≡_, refl, sym, _∙_, ap, ap₂}
+use Prim.Native.Nat.{ℕ, _≤_, _<_}
+use mathlib.Core.Path.{_≡_, refl, sym, _∙_, ap}
 use mathlib.Core.Bool.{Bool, true, false, cond}
-use mathlib.Core.List.{List, [], _∷_}
-use mathlib.Core.Option.{Option, some, none}
+use mathlib.Core.List.{List, []}
+use mathlib.Core.Option.{Option, none}
 use native.Mathlib.Omega.{arith}
 use borrow.Author.Tests.{lt-leb, le-leb, leb-true}
 use lib.Dec.{leb}
 use lib.ListN.{length, replicate, take}
 use Rattle.basis.specs.Words.{has}
 use Rattle.rules.specs.Candidates.{candidates, inversion}
-use Rattle.rules.specs.Refusals.{Refused, refusedAs, Ground, refusal}
+use Rattle.rules.specs.Refusals.{Refused, Ground, refusal}
 use Rattle.rules.specs.declared.Refusal.{Refusal}
 use Rattle.ranges.specs.Verdicts.{verdictAs}
 use Rattle.ranges.specs.declared.Verdict.{Verdict}
 use Rattle.ranges.specs.declared.Verdict.the-variants as verdict
 use Rattle.ranges.proofs.Verdicts.{verdict-refused, verdict-good}
 use Rattle.candidates.specs.Padded.{padded}
-use Rattle.candidates.specs.Promises.{ListIs, candidatesOf, SearchIs, Listing, listing}
+use Rattle.candidates.specs.Promises.{candidatesOf, SearchIs, Listing, listing}
 use Rattle.candidates.specs.declared.Found.{Found}
 use Rattle.candidates.proofs.Places.{padded-used, padded-long}
 use Rattle.candidates.proofs.Nested.{candidates-short}

@@ -1,17 +1,17 @@
 -- The nested search: what it has listed so far, how it goes on, and that the first failed test ends it.
-use Prim.Native.Nat.{ℕ, suc, _+_, _≤_, _<_}
+use Prim.Native.Nat.{ℕ, _+_, _≤_, _<_}
 use mathlib.Core.Path.{_≡_, refl, sym, _∙_, ap, ap₂, subst}
 use mathlib.Core.Bool.{Bool, true, false, cond, not, _&&_}
 use mathlib.Core.List.{List, [], _∷_, _++_, map, map-append, map-id}
-use mathlib.Core.Logic.{_⊎_, inl, inr, ⊎-elim}
+use mathlib.Core.Logic.{⊎-elim}
 use mathlib.Core.Option.{Option, some, none}
-use native.Mathlib.Nat.{le-refl, le-trans, le-antisymm}
+use native.Mathlib.Nat.{le-refl, le-antisymm}
 use native.Mathlib.Numerals.{add-one}
 use native.Mathlib.Omega.{arith}
 use borrow.Author.Tests.{lt-ltb, le-ltb, le-leb, ltb-false, ltb-true, not-true, not-false}
 use lib.Dec.{ltb, leb}
 use lib.ListN.{length, replicate, set, length-append, length-map}
-use Rattle.basis.specs.Words.{_!_, has, all, those, first}
+use Rattle.basis.specs.Words.{_!_, all, those, first}
 use Rattle.rules.specs.BusyLength.{active, passes}
 use Rattle.rules.specs.Candidates.{mayRun, members, idleListed, candidates, idle, inversion}
 use Rattle.laws.proofs.Tests.{both, and-left, and-right, or-right, never, fails, below-or-not}
@@ -19,7 +19,7 @@ use Rattle.laws.proofs.Places.{true-all, first-some, first-none, has-those, tho
 use Rattle.laws.proofs.Candidates.{first-active-may, failure-ends}
 use Rattle.busy.specs.Promises.{PassesIs}
 use Rattle.candidates.specs.Padded.{padded}
-use Rattle.candidates.specs.Promises.{ListIs, SearchIs}
+use Rattle.candidates.specs.Promises.{SearchIs}
 use Rattle.candidates.proofs.Places.{padded-next}
 
 -- what small tests amount to

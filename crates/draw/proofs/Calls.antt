@@ -1,5 +1,5 @@
 -- From the list and its weights to what the calls say.
-use Prim.Native.Nat.{ℕ, suc, _+_, _%_, _≤_, _<_}
+use Prim.Native.Nat.{ℕ, _+_, _%_, _≤_, _<_}
 use mathlib.Core.Path.{_≡_, refl, sym, _∙_, ap, ap₂, subst}
 use mathlib.Core.Bool.{Bool, true, false, cond}
 use mathlib.Core.List.{List, [], _∷_, _++_, map}
@@ -19,7 +19,7 @@ use Rattle.rules.specs.Refusals.{Refused, refusedAs, Ground, badTable, badState
 use Rattle.rules.specs.declared.Refusal.{Refusal}
 use Rattle.laws.proofs.Tests.{or-left, or-right, below-or-not}
 use Rattle.laws.proofs.Places.{has-entry}
-use Rattle.laws.proofs.Candidates.{Listed, member-listed, candidate-cases}
+use Rattle.laws.proofs.Candidates.{member-listed, candidate-cases}
 use Rattle.ranges.specs.Outcome.{Outcome, refused, gives, unlessRefused}
 use Rattle.ranges.specs.Verdicts.{verdictAs}
 use Rattle.ranges.specs.declared.Verdict.{Verdict}

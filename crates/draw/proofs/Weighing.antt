@@ -1,22 +1,18 @@
 -- The weights of a list, one after the other.
-use Prim.Native.Nat.{ℕ, zero, suc, _+_, _-_, _*_, _/_, _≤_, _<_}
+use Prim.Native.Nat.{ℕ, suc, _+_, _-_, _*_, _/_, _≤_, _<_}
 use mathlib.Core.Path.{_≡_, refl, sym, _∙_, ap, ap₂}
-use mathlib.Core.Bool.{Bool, true, false, cond}
-use mathlib.Core.List.{List, [], _∷_, _++_, map}
+use mathlib.Core.List.{List, [], _∷_, _++_}
 use mathlib.Core.Logic.{_⊎_, ⊎-elim}
 use native.Mathlib.Nat.{le-of-lt, le-antisymm, add-assoc, add-zero, zero-add, div-zero}
 use native.Mathlib.Numerals.{add-one}
 use native.Mathlib.Omega.{arith}
 use borrow.Author.Tests.{eq-eqb, ne-eqb}
-use lib.Dec.{eqb}
-use lib.ListN.{length, replicate, set, take, length-append}
+use lib.ListN.{length, replicate, set, take}
 use lib.Seq.{take-suc, length-take-le}
-use Rattle.basis.specs.Words.{_!_, has, total}
-use Rattle.rules.specs.Candidates.{members, idleListed, candidates, idle, inversion}
-use Rattle.rules.specs.Weights.{weight, idleWeight, memberWeights, weights}
-use Rattle.laws.proofs.Tests.{or-left, or-right}
+use Rattle.basis.specs.Words.{_!_, total}
+use Rattle.rules.specs.Candidates.{idle}
+use Rattle.rules.specs.Weights.{weight, idleWeight, weights}
 use Rattle.laws.proofs.Totals.{total-append}
-use Rattle.laws.proofs.Candidates.{member-listed}
 use Rattle.candidates.specs.Padded.{padded}
 use Rattle.candidates.proofs.Places.{padded-next}
 use Rattle.draw.specs.Inner.{weightOf, weighed, Usable, ScalesAre}

@@ -1,13 +1,12 @@
 -- From the verdicts, the pick and the tick to what the calls promise.
 use Prim.Native.Nat.{ℕ, _≤_, _<_}
-use mathlib.Core.Path.{_≡_, refl, sym, _∙_, ap, ap₂}
+use mathlib.Core.Path.{_≡_, refl, sym, _∙_, ap}
 use mathlib.Core.Bool.{Bool, true, false, cond, not, _&&_}
-use mathlib.Core.List.{List, [], _∷_, _++_}
+use mathlib.Core.List.{List, [], _∷_}
 use mathlib.Core.Option.{Option, some, none}
 use native.Mathlib.Omega.{arith}
 use borrow.Author.Tests.{lt-ltb, le-ltb, le-leb, lt-leb, not-true, not-false}
-use lib.Dec.{ltb, leb}
-use lib.ListN.{length, set, drop}
+use lib.ListN.{length, set}
 use Rattle.basis.specs.Words.{_!_, has, unless}
 use Rattle.rules.specs.Numbers.{Pairs, firstBadPartition}
 use Rattle.rules.specs.Admission.{firstUnadmitted}
@@ -17,12 +16,12 @@ use Rattle.rules.specs.Candidates.{candidates, inversion, idle}
 use Rattle.rules.specs.Pick.{decision}
 use Rattle.rules.specs.Tick.{tick, tickAllowed}
 use Rattle.rules.specs.Release.{release, releaseAllowed}
-use Rattle.rules.specs.Run.{Ran, run}
-use Rattle.rules.specs.Refusals.{Refused, refusedAs, Ground, badTable, notAdmitted, badState, notListed, notActive, shortBuffer, refusal, unlessBefore}
+use Rattle.rules.specs.Run.{Ran}
+use Rattle.rules.specs.Refusals.{Refused, refusedAs, Ground, badTable, notAdmitted, refusal, unlessBefore}
 use Rattle.rules.specs.declared.Refusal.{Refusal}
 use Rattle.rules.specs.declared.Refusal.the-variants.{NotAdmitted, NotListed, NotActive, ShortBuffer}
 use Rattle.rules.specs.declared.Table.{Table}
-use Rattle.ranges.specs.Outcome.{Outcome, refused, gives}
+use Rattle.ranges.specs.Outcome.{refused, gives}
 use Rattle.ranges.specs.Verdicts.{verdictAs}
 use Rattle.ranges.specs.declared.Verdict.{Verdict}
 use Rattle.ranges.specs.declared.Verdict.the-variants as verdict
@@ -34,7 +33,6 @@ use Rattle.standing.specs.declared.Test.{Test}
 use Rattle.standing.specs.declared.Test.the-variants as test
 use Rattle.candidates.specs.Promises.{MemberIs}
 use Rattle.draw.specs.Promises.{ChooseIs}
-use Rattle.draw.specs.declared.Decision.{Decision}
 use Rattle.draw.specs.declared.Decision.the-variants as decided
 use Rattle.scheduler.specs.States.{pairs}
 use Rattle.scheduler.specs.Promises.{Change, change, Step, stepped, Runs, runs, picksInto, table, state, FreshIs, TickIs, ReleaseIs, StepIs, RunIs, Filled}

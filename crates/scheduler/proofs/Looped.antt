@@ -3,11 +3,10 @@ use Prim.Native.Nat.{ℕ, suc, _+_, _≤_, _<_}
 use mathlib.Core.Path.{_≡_, refl, sym, _∙_, ap, ap₂}
 use mathlib.Core.Bool.{Bool, cond}
 use mathlib.Core.List.{List, [], _∷_, _++_, append-assoc}
-use native.Mathlib.Nat.{le-refl, le-of-lt, le-antisymm}
+use native.Mathlib.Nat.{le-of-lt, le-antisymm}
 use native.Mathlib.Numerals.{add-one}
 use native.Mathlib.Omega.{arith}
 use borrow.Author.Tests.{le-leb}
-use lib.Dec.{leb}
 use lib.ListN.{length, set, take, drop, length-set}
 use lib.Seq.{take-suc, drop-cons, set-append-seam, take-all, length-take-le}
 use Rattle.basis.specs.Words.{_!_}
@@ -16,10 +15,10 @@ use Rattle.rules.specs.Candidates.{idle}
 use Rattle.rules.specs.Pick.{decision}
 use Rattle.rules.specs.Tick.{tick}
 use Rattle.rules.specs.Run.{Ran, run}
-use Rattle.laws.proofs.Run.{run-nothing, run-next, run-length}
+use Rattle.laws.proofs.Run.{run-next, run-length}
 use Rattle.draw.specs.Promises.{ChooseIs}
 use Rattle.scheduler.specs.States.{pairs}
-use Rattle.scheduler.specs.Promises.{Filled, picksInto}
+use Rattle.scheduler.specs.Promises.{Filled}
 use Rattle.scheduler.specs.declared.State.{State}
 
 module _ (n : ℕ) (T B : List ℕ) (s : State) (words buffer : List ℕ) where

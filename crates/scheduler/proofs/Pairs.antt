@@ -1,6 +1,6 @@
 -- The loops over the pairs: a fresh start, the pick's tick, and time that passes.
 use Prim.Native.Nat.{ℕ, _+_, _-_, _≤_, _<_}
-use mathlib.Core.Path.{_≡_, refl, sym, _∙_, ap, ap₂}
+use mathlib.Core.Path.{_≡_, refl, sym, _∙_, ap}
 use mathlib.Core.Bool.{Bool, true, false, cond}
 use mathlib.Core.List.{List}
 use native.Mathlib.Nat.{le-refl, le-antisymm}
@@ -15,7 +15,7 @@ use Rattle.rules.specs.Candidates.{idle}
 use Rattle.rules.specs.FreshStart.{zeros, freshB, freshO, freshStart}
 use Rattle.rules.specs.Tick.{spend, replenishes, nextB, nextO, passTime, tick}
 use Rattle.laws.proofs.Filled.{filled-beyond, filled-next}
-use Rattle.scheduler.specs.States.{pairs, spentPairs}
+use Rattle.scheduler.specs.States.{spentPairs}
 use Rattle.scheduler.specs.declared.State.{State}
 
 -- ---- one entry

@@ -2,7 +2,7 @@
 use Prim.Native.Nat.{ℕ}
 use mathlib.Core.Path.{_≡_, refl, sym, _∙_, ap}
 use mathlib.Core.Bool.{Bool, true}
-use mathlib.Core.List.{List, [], _∷_}
+use mathlib.Core.List.{[], _∷_}
 use mathlib.Core.Option.{Option, some, none}
 use lib.ListN.{length}
 use Rattle.basis.specs.Words.{unless}
@@ -12,14 +12,14 @@ use Rattle.rules.specs.Tick.{tick, tickAllowed}
 use Rattle.rules.specs.Refusals.{Refused, ground, notListed, refusal}
 use Rattle.rules.specs.declared.Table.{Table}
 use Rattle.laws.proofs.Pick.{decision-allowed}
-use Rattle.ranges.specs.Outcome.{Outcome, refused, gives, unlessRefused}
+use Rattle.ranges.specs.Outcome.{refused, unlessRefused}
 use Rattle.ranges.specs.Verdicts.{verdictAs}
 use Rattle.ranges.specs.declared.Verdict.the-variants as verdict
 use Rattle.ranges.proofs.Verdicts.{Late, four, five, first-two, third-after, neither}
-use Rattle.draw.specs.Promises.{decisionAs, DecideIs}
+use Rattle.draw.specs.Promises.{DecideIs}
 use Rattle.draw.specs.declared.Decision.{Decision}
 use Rattle.scheduler.specs.States.{pairs}
-use Rattle.scheduler.specs.Promises.{Change, change, Step, stepped, steppedAs, changedAs, table, state, TickIs, StepIs}
+use Rattle.scheduler.specs.Promises.{Change, change, Step, stepped, changedAs, table, state, TickIs, StepIs}
 use Rattle.scheduler.specs.declared.State.{State}
 use Rattle.scheduler.specs.declared.Changed.{Changed}
 use Rattle.scheduler.specs.declared.Stepped.{Stepped}

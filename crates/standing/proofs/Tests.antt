@@ -1,19 +1,18 @@
 -- From a pass to the first that fails, to admission and to one partition's R.
-use Prim.Native.Nat.{ℕ, suc, _+_, _≤_, _<_}
+use Prim.Native.Nat.{ℕ, _+_, _≤_, _<_}
 use mathlib.Core.Path.{_≡_, refl, sym, _∙_, ap, subst}
 use mathlib.Core.Bool.{Bool, true, false, cond, not, _&&_}
 use mathlib.Core.List.{List, [], _∷_}
 use mathlib.Core.Option.{Option, some, none}
 use native.Mathlib.Nat.{le-antisymm}
 use native.Mathlib.Omega.{arith}
-use borrow.Author.Tests.{lt-ltb, le-ltb}
-use lib.Dec.{ltb}
-use Rattle.basis.specs.Words.{_!_, first, found}
-use Rattle.rules.specs.Numbers.{TableInRange, mostPartitions}
+use borrow.Author.Tests.{lt-ltb}
+use Rattle.basis.specs.Words.{first, found}
+use Rattle.rules.specs.Numbers.{TableInRange}
 use Rattle.rules.specs.Admission.{responseWithin, firstUnadmitted}
 use Rattle.rules.specs.BusyLength.{busyTest, passes}
 use Rattle.rules.specs.StandingTest.{firstFailing}
-use Rattle.rules.specs.Refusals.{ground, badTable, badTableOrIndex, badState, refusal}
+use Rattle.rules.specs.Refusals.{ground, badTable, badTableOrIndex, refusal}
 use Rattle.laws.proofs.Places.{first-next, first-here, first-same}
 use Rattle.laws.proofs.Numbers.{table-good}
 use Rattle.laws.proofs.Admission.{admission-is-busy}
