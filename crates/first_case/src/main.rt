@@ -2,6 +2,7 @@
 use libc::STDOUT_FILENO;
 use ranges::Verdict;
 use rules::Table;
+use runs::run;
 use scheduler::State;
 
 // A pick and a newline, in decimal.
@@ -49,7 +50,7 @@ fn main() {
     let mut picks = [0u8; 6];
     let begun = old.fresh(t);
     let start = begun.state;
-    let ran = start.run(t, &words, &mut picks);
+    let ran = run(start, t, &words, &mut picks);
     let verdict = ran.verdict;
     let Verdict::Good = verdict else {
         io::write_all(STDOUT_FILENO, b"refused\n");

@@ -1,12 +1,12 @@
 -- A list with its first places filled.
 use Prim.Native.Nat.{ℕ, zero, suc, _+_, _≤_, _<_}
-use mathlib.Core.Path.{_≡_, refl, _∙_, ap₂}
+use mathlib.Core.Path.{_≡_, refl, sym, _∙_, ap, ap₂}
 use mathlib.Core.List.{List}
 use native.Mathlib.Nat.{le-step, lt-suc-self}
 use native.Mathlib.Numerals.{add-one}
 use native.Mathlib.Omega.{arith}
 use lib.ListN.{length, set, length-set}
-use lib.Seq.{getD-set-same, getD-set-other}
+use lib.Seq.{getD-set-same, getD-set-other, set-out}
 use Rattle.laws.proofs.Tests.{below-cases}
 use Rattle.basis.specs.Words.{_!_, filled}
 
@@ -40,3 +40,11 @@ filled-same (suc n) f g xs h =
 pub filled-next : (f : ℕ → ℕ) (xs ys : List ℕ) (i x : ℕ) → ys ≡ filled i f xs → x ≡ f i → set ys i x ≡ filled (i + 1) f xs
 unfolding filled
 filled-next f xs ys i x e d = rw (add-one i, e, d)
+
+-- places past the end of the list aren't there to be filled
+pub filled-past : (m n : ℕ) (f : ℕ → ℕ) (xs : List ℕ) → length xs ≡ m → m ≤ n → filled n f xs ≡ filled m f xs
+unfolding filled
+filled-past m zero f xs long l = let e : _≡_ {A = ℕ} 0 m = omega arith in ap (λ k. filled k f xs) e
+filled-past m (suc n) f xs long l =
+    below-cases (suc n) m (omega arith) (λ e. ap (λ k. filled k f xs) (sym e))
+    (λ h. set-out (filled n f xs) n (f n) (rw (filled-length n f xs, long) (omega arith)) ∙ filled-past m n f xs long (omega arith))

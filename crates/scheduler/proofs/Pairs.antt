@@ -14,7 +14,7 @@ use Rattle.rules.specs.Numbers.{Pairs}
 use Rattle.rules.specs.Candidates.{idle}
 use Rattle.rules.specs.FreshStart.{zeros, freshB, freshO, freshStart}
 use Rattle.rules.specs.Tick.{spend, replenishes, nextB, nextO, passTime, tick}
-use Rattle.laws.proofs.Filled.{filled-beyond, filled-next}
+use Rattle.laws.proofs.Filled.{filled-beyond, filled-next, filled-past}
 use Rattle.scheduler.specs.States.{spentPairs}
 use Rattle.scheduler.specs.declared.State.{State}
 
@@ -117,3 +117,29 @@ pub tick-is : (n : ℕ) (T B : List ℕ) (s spent r : State) (pick : ℕ) → _�
     → _≡_ {A = Pairs} (record { b = r .b; o = r .o }) (passTime n T B (spent .b) (spent .o)) → _≡_ {A = Pairs} (record { b = r .b; o = r .o }) (tick n T B (s .b) (s .o) pick)
 unfolding tick
 tick-is n T B s spent r pick e d = d ∙ ap (λ (p : Pairs). passTime n T B (p .b) (p .o)) e
+
+-- all sixteen pairs, whatever the count
+pass-past : (m n : ℕ) (T B b o : List ℕ) → length b ≡ m → length o ≡ m → m ≤ n → passTime n T B b o ≡ passTime m T B b o
+unfolding passTime
+pass-past m n T B b o bs os l = λ i. record { b = filled-past m n (nextB B b o) b bs l i; o = filled-past m n (nextO T o) o os l i }
+
+spend-length : (b : List ℕ) (pick : ℕ) → length (spend b pick) ≡ length b
+unfolding spend
+spend-length b pick = go (eqb pick idle)
+  where
+    go : (a : Bool) → length (cond a b (set b pick (b ! pick - 1))) ≡ length b
+    go true = refl
+    go false = length-set b pick (b ! pick - 1)
+
+pub tick-all : (n : ℕ) (T B : List ℕ) (s spent r : State) (pick : ℕ) → length (s .b) ≡ 16 → length (s .o) ≡ 16 → 16 < n → _≡_ {A = Pairs} (record { b = spent .b; o = spent .o }) (spentPairs s pick)
+    → _≡_ {A = Pairs} (record { b = r .b; o = r .o }) (passTime 16 T B (spent .b) (spent .o)) → _≡_ {A = Pairs} (record { b = r .b; o = r .o }) (tick n T B (s .b) (s .o) pick)
+tick-all n T B s spent r pick b-held o-held l e d = tick-is n T B s spent r pick e (d ∙ sym whole)
+  where
+    b-long : length (spent .b) ≡ 16
+    b-long = ap (λ (p : Pairs). length (p .b)) e ∙ spend-length (s .b) pick ∙ b-held
+
+    o-long : length (spent .o) ≡ 16
+    o-long = ap (λ (p : Pairs). length (p .o)) e ∙ o-held
+
+    whole : passTime n T B (spent .b) (spent .o) ≡ passTime 16 T B (spent .b) (spent .o)
+    whole = pass-past 16 n T B (spent .b) (spent .o) b-long o-long (omega arith)

@@ -1,14 +1,14 @@
-use Prim.Native.Nat.{_-_, _≤_}
 use borrow.Author.Needs.{needs}
+use Prim.Native.Nat.{_-_, _≤_}
 use Rattle.scheduler.proofs.Pairs.{FreshTo, fresh-begins, fresh-on, fresh-ends}
 use Rattle.scheduler.proofs.fresh_start.Statement.{statement}
 use Rattle.scheduler.proofs.fresh_start.Tie as tie
 
 abbrev Inv-loop : tie.InvT-loop
-Inv-loop n period budget phase b₀ o₀ i₀ b o i = (i ≤ n) × FreshTo period budget phase i b o
+Inv-loop t b₀ o₀ i₀ i-end b o i = (i ≤ t .count) × FreshTo (t .period) (t .budget) (t .phase) i b o
 
 abbrev μ-loop : tie.MeasureT-loop
-μ-loop n period budget phase b₀ o₀ i₀ b o i = n - i
+μ-loop t b₀ o₀ i₀ i-end b o i = t .count - i
 
 loop-holds : tie.Need-loop-holds Inv-loop μ-loop
 loop-holds c = search (needs, fresh-begins)

@@ -31,10 +31,11 @@ use Rattle.draw.specs.Promises.{Weighing, weighedAs, decisionAs, ChooseIs, Weig
 use Rattle.draw.specs.declared.Weighed.{Weighed}
 use Rattle.draw.specs.declared.Decision.{Decision}
 use Rattle.draw.specs.declared.Decision.the-variants as decided
-use Rattle.scheduler.specs.Promises.{Change, changedAs, Step, steppedAs, Runs, ranAs, FreshIs, TickIs, ReleaseIs, StepIs, RunIs}
+use Rattle.scheduler.specs.Promises.{Change, changedAs, FreshIs, JudgedIs, TickedIs, TickIs, ReleaseIs}
+use Rattle.runs.specs.Promises.{Step, steppedAs, Runs, ranAs, StepIs, RunIs}
 use Rattle.scheduler.specs.declared.State.{State}
 use Rattle.scheduler.specs.declared.Changed.{Changed}
-use Rattle.scheduler.specs.declared.Stepped.{Stepped}
+use Rattle.runs.specs.declared.Stepped.{Stepped}
 
 -- ---- no two cases of an enum have the same number and values
 taken : {A : Type 0} {x y : A} → some x ≡ some y → x ≡ y
@@ -170,6 +171,12 @@ module _ (t : Table) (b o : List ℕ) where
 module _ (t : Table) (now : State) where
   pub fresh-one : (r s : Changed) → FreshIs t now r → FreshIs t now s → r ≡ s
   fresh-one r s p q = changed-injective r s (p ∙ sym q)
+
+  pub judged-one : (r s : Verdict) → JudgedIs t now r → JudgedIs t now s → r ≡ s
+  judged-one r s p q = verdict-injective r s (p ∙ sym q)
+
+  pub ticked-one : (n : ℕ) (T B : List ℕ) (pick : ℕ) (r s : State) → TickedIs n T B now pick r → TickedIs n T B now pick s → r ≡ s
+  ticked-one n T B pick r s p q = λ i. record { b = (p ∙ sym q) i .b; o = (p ∙ sym q) i .o }
 
   pub tick-one : (pick : ℕ) (r s : Changed) → TickIs t now pick r → TickIs t now pick s → r ≡ s
   tick-one pick r s p q = changed-injective r s (p ∙ sym q)

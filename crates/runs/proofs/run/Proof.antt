@@ -1,17 +1,17 @@
-use borrow.Author.Needs.{needs}
 use Rattle.ranges.proofs.Outcomes.{few-of-state}
-use Rattle.scheduler.proofs.Calls.{run-refused, run-short, run-made}
-use Rattle.scheduler.proofs.State.run.Statement.{statement}
-use Rattle.scheduler.proofs.State.run.Tie as tie
+use Rattle.runs.proofs.Calls.{run-refused, run-short, run-made}
+use borrow.Author.Needs.{needs}
+use Rattle.runs.proofs.run.Statement.{statement}
+use Rattle.runs.proofs.run.Tie as tie
 
 judged-requires : tie.Need-judged-requires
 judged-requires c κs = search needs
 
-enum-known-verdict : tie.Need-enum-known-verdict
-enum-known-verdict c = search needs
+enum-known-r : tie.Need-enum-known-r
+enum-known-r c = search needs
 
 returns : tie.Need-returns
-returns c = run-refused _ _ _ (c .before .before .before .judged .ensures) (c .before .before .before .before .before .before .args .words .now) _ _ (c .before .verdict .given .1)
+returns c = run-refused _ _ _ (c .before .before .before .judged .ensures) (c .before .before .before .before .before .before .args .words .now) _ _ (c .before .r .given .1)
 
 enum-told : tie.Need-enum-told
 enum-told c = search needs
@@ -33,7 +33,7 @@ run-spec =
     tie.close
     (tie.spec
     judged-requires
-    enum-known-verdict
+    enum-known-r
     returns
     enum-told
     returns-2

@@ -18,12 +18,13 @@ use Rattle.ranges.specs.declared.Verdict.the-variants as verdict
 use Rattle.ranges.proofs.Verdicts.{Late, four, five, first-two, third-after, neither}
 use Rattle.draw.specs.Promises.{DecideIs}
 use Rattle.draw.specs.declared.Decision.{Decision}
 use Rattle.scheduler.specs.States.{pairs}
-use Rattle.scheduler.specs.Promises.{Change, change, Step, stepped, changedAs, table, state, TickIs, StepIs}
+use Rattle.scheduler.specs.Promises.{Change, change, changedAs, table, state, TickIs}
+use Rattle.runs.specs.Promises.{Step, stepped, StepIs}
 use Rattle.scheduler.specs.declared.State.{State}
 use Rattle.scheduler.specs.declared.Changed.{Changed}
-use Rattle.scheduler.specs.declared.Stepped.{Stepped}
-use Rattle.scheduler.proofs.OneAnswer.{decision-injective, verdict-injective}
+use Rattle.runs.specs.declared.Stepped.{Stepped}
+use Rattle.runs.proofs.OneAnswer.{decision-injective, verdict-injective}
 
 -- a third ground that does not apply changes nothing
 no-third : (x y : Option ℕ) {k : ℕ} → Late k → refusal (ground 1 x ∷ ground 3 y ∷ ground k none ∷ []) ≡ refusal (ground 1 x ∷ ground 3 y ∷ [])

@@ -17,9 +17,9 @@ use Rattle.rules.specs.Tick.{tick}
 use Rattle.rules.specs.Run.{Ran, run}
 use Rattle.laws.proofs.Run.{run-next, run-length}
 use Rattle.draw.specs.Promises.{ChooseIs}
 use Rattle.scheduler.specs.States.{pairs}
-use Rattle.scheduler.specs.Promises.{Filled}
+use Rattle.runs.specs.Promises.{Filled}
 use Rattle.scheduler.specs.declared.State.{State}
 
 module _ (n : ℕ) (T B : List ℕ) (s : State) (words buffer : List ℕ) where
   -- the run over the first i words

@@ -2,9 +2,9 @@ use Prim.Native.Nat.{_-_, _≤_}
 use native.Mathlib.Omega.{arith}
 use borrow.Author.Needs.{needs}
 use lib.ListN.{length}
-use Rattle.scheduler.proofs.Looped.{RanTo, run-begins, run-goes-on, run-ends}
-use Rattle.scheduler.proofs.State.ran.Statement.{statement}
-use Rattle.scheduler.proofs.State.ran.Tie as tie
+use Rattle.runs.proofs.Looped.{RanTo, run-begins, run-goes-on, run-ends}
+use Rattle.runs.proofs.ran.Statement.{statement}
+use Rattle.runs.proofs.ran.Tie as tie
 
 abbrev Inv-loop : tie.InvT-loop
 Inv-loop n period budget words picks₀ state₀ i₀ i-end picks state i = (i ≤ length words) × RanTo n period budget state₀ words picks₀ i state picks

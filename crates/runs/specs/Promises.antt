@@ -1,0 +1,70 @@
+-- What each public function of this crate promises of its answer r, the state after it, and lent memory.
+use Prim.Native.Nat.{ℕ}
+use mathlib.Core.Path.{_≡_}
+use mathlib.Core.List.{List, [], _∷_, _++_}
+use mathlib.Core.Option.{Option, some, none}
+use lib.ListN.{length, drop}
+use Rattle.rules.specs.Numbers.{Pairs}
+use Rattle.rules.specs.Pick.{decision}
+use Rattle.rules.specs.Tick.{tick}
+use Rattle.rules.specs.Run.{Ran, run}
+use Rattle.rules.specs.Refusals.{Refused, shortBuffer, refusal}
+use Rattle.rules.specs.declared.Table.{Table}
+use Rattle.ranges.specs.Outcome.{Outcome, refused, gives}
+use Rattle.ranges.specs.Verdicts.{verdictAs}
+use Rattle.draw.specs.Promises.{decisionAs}
+use Rattle.scheduler.specs.States.{pairs}
+use Rattle.scheduler.specs.Promises.{table, state}
+use Rattle.scheduler.specs.declared.State.{State}
+use Rattle.scheduler.specs.declared.Changed.{Changed}
+use Rattle.runs.specs.declared.Stepped.{Stepped}
+
+-- ---- answers
+-- a state after a step, and its pick or refusal
+pub record Step : Type 0 where
+  pub after : Pairs
+  pub says : Outcome ℕ
+
+abbrev pub steppedAs : Stepped → Step
+steppedAs r = record { after = pairs (r .state); says = decisionAs (r .decision) }
+
+unfoldable pub stepped : Option Refused → Pairs → Pairs → ℕ → Step
+stepped none before after pick = record { after = after; says = gives pick }
+stepped (some r) before after pick = record { after = before; says = refused r }
+
+-- a state after a run, its refusal, and the buffer
+pub record Runs : Type 0 where
+  pub after : Pairs
+  pub refused : Option Refused
+  pub buffer : List ℕ
+
+abbrev pub ranAs : Changed → List ℕ → Runs
+ranAs r buffer = record { after = pairs (r .state); refused = verdictAs (r .verdict); buffer = buffer }
+
+-- "picks go to a lent byte buffer"; "Bytes past the last pick stay."
+abbrev pub picksInto : Ran → List ℕ → List ℕ
+picksInto ran buffer = ran .picks ++ drop (length (ran .picks)) buffer
+
+unfoldable pub runs : Option Refused → Pairs → List ℕ → Ran → Runs
+runs none before buffer ran = record { after = ran .after; refused = none; buffer = picksInto ran buffer }
+runs (some r) before buffer ran = record { after = before; refused = some r; buffer = buffer }
+
+-- ---- promises
+module _ (t : Table) (s : State) where
+  -- one decision and its tick: refusals 1 and 3
+  abbrev pub StepIs : ℕ → Stepped → Type 0
+  StepIs word r =
+      steppedAs r ≡ stepped (refusal (table t s ∷ state t s ∷ [])) (pairs s)
+      (tick (t .count) (t .period) (t .budget) (s .b) (s .o) (decision (t .count) (t .period) (t .budget) (s .b) (s .o) word))
+      (decision (t .count) (t .period) (t .budget) (s .b) (s .o) word)
+
+  -- a run over the words into the buffer, which is `last` after it: refusals 1, 3 and 7
+  abbrev pub RunIs : List ℕ → List ℕ → Changed → List ℕ → Type 0
+  RunIs words buffer r last =
+      ranAs r last ≡ runs (refusal (table t s ∷ state t s ∷ shortBuffer (length words) (length buffer) ∷ [])) (pairs s) buffer
+      (run (t .count) (t .period) (t .budget) (pairs s) words)
+
+-- what the loop of a run gives
+pub record Filled (n : ℕ) (T B : List ℕ) (s : State) (words buffer : List ℕ) (r : State) (last : List ℕ) : Type 0 where
+  pub after : pairs r ≡ run n T B (pairs s) words .after
+  pub picks : last ≡ picksInto (run n T B (pairs s) words) buffer

@@ -1,0 +1,78 @@
+// A step by a word, and a run over words: decisions and their ticks.
+ghost use mathlib.Core.Path.{_≡_};
+ghost use Prim.Native.Nat.{_≤_};
+ghost use lib.ListN as Seq;
+ghost use Rattle.runs.specs.Promises.{StepIs, RunIs, Filled};
+use draw::Decision;
+use draw::choose;
+use ranges::Verdict;
+use rules::Refusal;
+use rules::Table;
+use scheduler::Changed;
+use scheduler::State;
+
+// The state after a step, and its pick.
+pub struct Stepped {
+    pub state: State,
+    pub decision: Decision,
+}
+
+// One decision and its tick, from a word, in one search. Refusals 1 and 3.
+pub fn step(state: State, t: Table, word: u32) -> Stepped
+    ensures { λ r. ⌜ StepIs t state word r ⌝ }
+{
+    if let Verdict::Refused(r) = state.judged(t) {
+        return Stepped {
+            state,
+            decision: Decision::Refused(r),
+        };
+    }
+    let pick = choose(t.count, &t.period, &t.budget, &state.b, &state.o, word);
+    Stepped {
+        state: state.ticked(t.count, &t.period, &t.budget, pick as usize),
+        decision: Decision::Pick(pick),
+    }
+}
+
+// A decision and a tick for each word, and the picks into the buffer.
+fn ran<'t>(
+    start: State,
+    n: usize,
+    period: &'t [u16; 16],
+    budget: &'t [u16; 16],
+    words: &[u32],
+    picks: &mut [u8],
+) -> State
+    requires { ⌜ (n ≤ 16) × (Seq.length (now words) ≤ Seq.length (now picks)) ⌝ }
+    ensures { λ r. ⌜ Filled n (now (period .entry)) (now (budget .entry)) start (now (words .entry)) (now (picks .entry)) r (now (picks .exit)) ⌝ }
+{
+    let mut state = start;
+    for i in 0..words.len() {
+        let pick = choose(n, period, budget, &state.b, &state.o, words[i]);
+        picks[i] = pick;
+        state = state.ticked(n, period, budget, pick as usize);
+    }
+    state
+}
+
+// A run over lent words into a lent buffer, a byte for each pick. Refusals 1, 3 and 7.
+pub fn run(state: State, t: Table, words: &[u32], picks: &mut [u8]) -> Changed
+    ensures { λ r. ⌜ RunIs t state (now (words .entry)) (now (picks .entry)) r (now (picks .exit)) ⌝ }
+{
+    if let Verdict::Refused(r) = state.judged(t) {
+        return Changed {
+            state,
+            verdict: Verdict::Refused(r),
+        };
+    }
+    if picks.len() < words.len() {
+        return Changed {
+            state,
+            verdict: Verdict::Refused(Refusal::ShortBuffer(words.len())),
+        };
+    }
+    Changed {
+        state: ran(state, t.count, &t.period, &t.budget, words, picks),
+        verdict: Verdict::Good,
+    }
+}
