@@ -2,11 +2,11 @@
 use Prim.Native.Nat.{ℕ, zero, suc, _+_, _≤_, _<_}
 use mathlib.Core.Path.{_≡_, refl, sym, _∙_, ap, ap₂}
 use mathlib.Core.List.{List}
-use native.Mathlib.Nat.{le-step, lt-suc-self}
+use native.Mathlib.Nat.{le-step, le-refl, lt-suc-self}
 use native.Mathlib.Numerals.{add-one}
 use native.Mathlib.Omega.{arith}
 use lib.ListN.{length, set, length-set}
-use lib.Seq.{getD-set-same, getD-set-other, set-out}
+use lib.Seq.{getD-set-same, getD-set-other, set-out, set-getD}
 use Rattle.laws.proofs.Tests.{below-cases}
 use Rattle.basis.specs.Words.{_!_, filled}
 
@@ -40,6 +40,11 @@ filled-same (suc n) f g xs h =
 pub filled-next : (f : ℕ → ℕ) (xs ys : List ℕ) (i x : ℕ) → ys ≡ filled i f xs → x ≡ f i → set ys i x ≡ filled (i + 1) f xs
 unfolding filled
 filled-next f xs ys i x e d = rw (add-one i, e, d)
+
+pub filled-still : (f : ℕ → ℕ) (xs ys : List ℕ) (i : ℕ) → ys ≡ filled i f xs → xs ! i ≡ f i → ys ≡ filled (i + 1) f xs
+unfolding filled
+filled-still f xs ys i e d =
+    e ∙ sym (set-getD (filled i f xs) i 0) ∙ ap (λ x. set (filled i f xs) i x) (filled-beyond i f xs i (le-refl i) ∙ d) ∙ ap (λ m. filled m f xs) (sym (add-one i))
 
 -- places past the end of the list aren't there to be filled
 pub filled-past : (m n : ℕ) (f : ℕ → ℕ) (xs : List ℕ) → length xs ≡ m → m ≤ n → filled n f xs ≡ filled m f xs

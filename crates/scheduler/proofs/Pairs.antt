@@ -7,29 +7,16 @@ use native.Mathlib.Nat.{le-refl, le-antisymm}
 use native.Mathlib.Omega.{arith}
 use borrow.Author.Tests.{eq-eqb, ne-eqb}
 use lib.Dec.{eqb}
-use lib.ListN.{length, replicate, set, length-set}
+use lib.ListN.{length, replicate, set, length-set, getD-replicate}
 use lib.Seq.{set-out, set-getD}
 use Rattle.basis.specs.Words.{_!_, filled}
 use Rattle.rules.specs.Numbers.{Pairs}
 use Rattle.rules.specs.Candidates.{idle}
 use Rattle.rules.specs.FreshStart.{zeros, freshB, freshO, freshStart}
 use Rattle.rules.specs.Tick.{spend, replenishes, nextB, nextO, passTime, tick}
-use Rattle.laws.proofs.Filled.{filled-beyond, filled-next, filled-past}
+use Rattle.laws.proofs.Filled.{filled-beyond, filled-next, filled-still, filled-past}
 use Rattle.scheduler.specs.States.{spentPairs}
 use Rattle.scheduler.specs.declared.State.{State}
-
--- ---- one entry
-pub at-zero : (x u v : ℕ) → x ≡ 0 → u ≡ cond (eqb x 0) u v
-at-zero x u v e = sym (rw (eq-eqb x 0 e))
-
-pub not-at-zero : (x u v : ℕ) → (x ≡ 0 → ⊥) → v ≡ cond (eqb x 0) u v
-not-at-zero x u v other = sym (rw (ne-eqb x 0 other))
-
-pub due-now : (o u v : ℕ) → o ≤ 1 → u ≡ cond (eqb (o - 1) 0) u v
-due-now o u v l = at-zero (o - 1) u v (omega arith)
-
-pub due-later : (o u v : ℕ) → 1 < o → v ≡ cond (eqb (o - 1) 0) u v
-due-later o u v l = not-at-zero (o - 1) u v (λ e. omega arith)
 
 -- ---- a fresh start has come to i
 pub record FreshTo (T B phase : List ℕ) (i : ℕ) (b o : List ℕ) : Type 0 where
@@ -42,10 +29,23 @@ module _ (T B phase : List ℕ) where
   fresh-begins = record { b-is = refl; o-is = refl }
 
   module _ (i : ℕ) (b o : List ℕ) (here : FreshTo T B phase i b o) where
-    pub fresh-on : (x y : ℕ) → x ≡ cond (eqb (phase ! i) 0) (B ! i) 0 → y ≡ cond (eqb (phase ! i) 0) (T ! i) (phase ! i)
-        → FreshTo T B phase (i + 1) (set b i x) (set o i y)
+    -- phase 0
+    pub fresh-whole : (next now : List ℕ) → phase ! i ≡ 0 → next ≡ set b i (B ! i) → now ≡ set o i (T ! i) → FreshTo T B phase (i + 1) next now
     unfolding freshB freshO
-    fresh-on x y e d = record { b-is = filled-next (freshB B phase) zeros b i x (here .b-is) e; o-is = filled-next (freshO T phase) zeros o i y (here .o-is) d }
+    fresh-whole next now e bs os =
+        record {
+          b-is = bs ∙ filled-next (freshB B phase) zeros b i (B ! i) (here .b-is) (sym (rw (eq-eqb (phase ! i) 0 e)));
+          o-is = os ∙ filled-next (freshO T phase) zeros o i (T ! i) (here .o-is) (sym (rw (eq-eqb (phase ! i) 0 e)));
+        }
+
+    -- another phase: b is 0 still
+    pub fresh-waits : (next now : List ℕ) → i < 16 → (phase ! i ≡ 0 → ⊥) → next ≡ b → now ≡ set o i (phase ! i) → FreshTo T B phase (i + 1) next now
+    unfolding freshB freshO
+    fresh-waits next now l other bs os =
+        record {
+          b-is = bs ∙ filled-still (freshB B phase) zeros b i (here .b-is) (getD-replicate 16 i 0 0 l ∙ sym (rw (ne-eqb (phase ! i) 0 other)));
+          o-is = os ∙ filled-next (freshO T phase) zeros o i (phase ! i) (here .o-is) (sym (rw (ne-eqb (phase ! i) 0 other)));
+        }
 
     pub fresh-ends : (n : ℕ) → n ≤ i → i ≤ n → _≡_ {A = Pairs} (record { b = b; o = o }) (freshStart n T B phase)
     unfolding freshStart
@@ -95,16 +95,33 @@ module _ (T B : List ℕ) where
     o-still : s .o ! i ≡ o ! i
     o-still = ap (λ (xs : List ℕ). xs ! i) (here .o-is) ∙ filled-beyond i (nextO T o) o i (le-refl i)
 
-    pub pass-on : (x y : ℕ) → x ≡ cond (eqb (s .o ! i - 1) 0) (B ! i) (s .b ! i) → y ≡ cond (eqb (s .o ! i - 1) 0) (T ! i) (s .o ! i - 1)
-        → PassedTo T B b o (i + 1) (record { b = set (s .b) i x; o = set (s .o) i y })
+    -- o falls by 1, and b stays
+    pub pass-later : (next : State) → 1 < s .o ! i → next ≡ record { b = s .b; o = set (s .o) i (s .o ! i - 1) } → PassedTo T B b o (i + 1) next
     unfolding nextB nextO replenishes
-    pass-on x y e d =
+    pass-later next l e =
         record {
-          b-is = filled-next (nextB B b o) b (s .b) i x (here .b-is) (e ∙ (λ j. cond (eqb (o-still j - 1) 0) (B ! i) (b-still j)));
-          o-is = filled-next (nextO T o) o (s .o) i y (here .o-is) (d ∙ (λ j. cond (eqb (o-still j - 1) 0) (T ! i) (o-still j - 1)));
-          b-long = length-set (s .b) i x ∙ here .b-long;
-          o-long = length-set (s .o) i y ∙ here .o-long;
+          b-is = ap (λ (z : State). z .b) e ∙ filled-still (nextB B b o) b (s .b) i (here .b-is) (sym (rw (ne-eqb (o ! i - 1) 0 not-yet)));
+          o-is = ap (λ (z : State). z .o) e ∙ filled-next (nextO T o) o (s .o) i (s .o ! i - 1) (here .o-is) (ap (λ x. x - 1) o-still ∙ sym (rw (ne-eqb (o ! i - 1) 0 not-yet)));
+          b-long = ap (λ (z : State). length (z .b)) e ∙ here .b-long;
+          o-long = ap (λ (z : State). length (z .o)) e ∙ length-set (s .o) i (s .o ! i - 1) ∙ here .o-long;
         }
+      where
+        not-yet : o ! i - 1 ≡ 0 → ⊥
+        not-yet d = let still = o-still in omega arith
+
+    -- o reaches 0
+    pub pass-renews : (next : State) → s .o ! i ≤ 1 → next ≡ record { b = set (s .b) i (B ! i); o = set (s .o) i (T ! i) } → PassedTo T B b o (i + 1) next
+    unfolding nextB nextO replenishes
+    pass-renews next l e =
+        record {
+          b-is = ap (λ (z : State). z .b) e ∙ filled-next (nextB B b o) b (s .b) i (B ! i) (here .b-is) (sym (rw (eq-eqb (o ! i - 1) 0 due)));
+          o-is = ap (λ (z : State). z .o) e ∙ filled-next (nextO T o) o (s .o) i (T ! i) (here .o-is) (sym (rw (eq-eqb (o ! i - 1) 0 due)));
+          b-long = ap (λ (z : State). length (z .b)) e ∙ length-set (s .b) i (B ! i) ∙ here .b-long;
+          o-long = ap (λ (z : State). length (z .o)) e ∙ length-set (s .o) i (T ! i) ∙ here .o-long;
+        }
+      where
+        due : o ! i - 1 ≡ 0
+        due = let still = o-still in omega arith
 
     pub pass-ends : (n : ℕ) → n ≤ i → i ≤ n → _≡_ {A = Pairs} (record { b = s .b; o = s .o }) (passTime n T B b o)
     unfolding passTime

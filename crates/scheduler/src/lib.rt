@@ -1,8 +1,6 @@
 // The scheduler's state, and what changes it: fresh start, tick and release.
 ghost use mathlib.Core.Path.{_≡_};
-ghost use mathlib.Core.Bool.{cond};
-ghost use Prim.Native.Nat.{_-_, _≤_};
-ghost use lib.Dec.{eqb};
+ghost use Prim.Native.Nat.{_≤_};
 ghost use Rattle.rules.specs.FreshStart.{freshStart};
 ghost use Rattle.rules.specs.Tick.{passTime};
 ghost use Rattle.rules.specs.Refusals.{refusedAs};
@@ -28,27 +26,7 @@ pub struct Changed {
     pub verdict: Verdict,
 }
 
-// Phase 0: b = B. Otherwise b = 0.
-fn fresh_b(budget: u16, phase: u16) -> u16
-    ensures { λ r. ⌜ r ≡ cond (eqb phase 0) budget 0 ⌝ }
-{
-    if phase == 0 {
-        return budget;
-    }
-    0
-}
-
-// Phase 0: o = T. Otherwise o = phase.
-fn fresh_o(period: u16, phase: u16) -> u16
-    ensures { λ r. ⌜ r ≡ cond (eqb phase 0) period phase ⌝ }
-{
-    if phase == 0 {
-        return period;
-    }
-    phase
-}
-
-// The fresh start of a table. Pairs beyond it are 0, 0.
+// The fresh start of a table: b = B and o = T where the phase is 0, else b = 0 and o = phase. Pairs beyond it are 0, 0.
 fn fresh_start(t: Table) -> State
     requires { ⌜ t .count ≤ 16 ⌝ }
     ensures { λ r. ⌜ pairs r ≡ freshStart (t .count) (t .period) (t .budget) (t .phase) ⌝ }
@@ -56,30 +34,15 @@ fn fresh_start(t: Table) -> State
     let mut b = [0u16; 16];
     let mut o = [0u16; 16];
     for i in 0..t.count {
-        b[i] = fresh_b(t.budget[i], t.phase[i]);
-        o[i] = fresh_o(t.period[i], t.phase[i]);
+        let phase = t.phase[i];
+        if phase == 0 {
+            b[i] = t.budget[i];
+            o[i] = t.period[i];
+        } else {
+            o[i] = phase;
+        }
     }
     State { b, o }
-}
-
-// Where o reaches 0, b becomes B.
-fn next_b(budget: u16, b: u16, o: u16) -> u16
-    ensures { λ r. ⌜ r ≡ cond (eqb (o - 1) 0) budget b ⌝ }
-{
-    if o > 1 {
-        return b;
-    }
-    budget
-}
-
-// o falls by 1; where it reaches 0, it becomes T.
-fn next_o(period: u16, o: u16) -> u16
-    ensures { λ r. ⌜ r ≡ cond (eqb (o - 1) 0) period (o - 1) ⌝ }
-{
-    if o > 1 {
-        return o - 1;
-    }
-    period
 }
 
 impl State {
@@ -136,16 +99,19 @@ impl State {
         self
     }
 
-    // Time passes for each of `n` partitions.
+    // Time passes for each of `n` partitions: o falls by 1, and where it reaches 0, b becomes B and o becomes T.
     fn passed<'t>(mut self, n: usize, period: &'t [u16; 16], budget: &'t [u16; 16]) -> State
         requires { ⌜ n ≤ 16 ⌝ }
         ensures { λ r. ⌜ pairs r ≡ passTime n (now (period .entry)) (now (budget .entry)) (self .b) (self .o) ⌝ }
     {
         for i in 0..n {
-            let left = self.b[i];
             let next = self.o[i];
-            self.b[i] = next_b(budget[i], left, next);
-            self.o[i] = next_o(period[i], next);
+            if next > 1 {
+                self.o[i] = next - 1;
+            } else {
+                self.b[i] = budget[i];
+                self.o[i] = period[i];
+            }
         }
         self
     }
