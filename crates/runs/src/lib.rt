@@ -1,5 +1,4 @@
 // A step by a word, and a run over words: decisions and their ticks.
-ghost use mathlib.Core.Path.{_≡_};
 ghost use Prim.Native.Nat.{_≤_};
 ghost use lib.ListN as Seq;
 ghost use Rattle.runs.specs.Promises.{StepIs, RunIs, Filled};

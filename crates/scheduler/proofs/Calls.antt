@@ -13,7 +13,7 @@ use Rattle.rules.specs.Admission.{firstUnadmitted}
 use Rattle.rules.specs.FreshStart.{freshStart}
 use Rattle.rules.specs.BusyLength.{active}
 use Rattle.rules.specs.Candidates.{candidates, inversion}
-use Rattle.rules.specs.Tick.{tick, tickAllowed}
+use Rattle.rules.specs.Tick.{tickAllowed}
 use Rattle.rules.specs.Release.{release, releaseAllowed}
 use Rattle.rules.specs.Refusals.{Refused, refusedAs, Ground, badTable, notAdmitted, refusal, unlessBefore}
 use Rattle.rules.specs.declared.Refusal.{Refusal}
@@ -29,7 +29,7 @@ use Rattle.standing.specs.declared.Test.{Test}
 use Rattle.standing.specs.declared.Test.the-variants as test
 use Rattle.candidates.specs.Promises.{MemberIs}
 use Rattle.scheduler.specs.States.{pairs}
-use Rattle.scheduler.specs.Promises.{Change, changedAs, kept, made, change, FreshIs, JudgedIs, TickedIs, TickIs, ReleaseIs}
+use Rattle.scheduler.specs.Promises.{changedAs, kept, made, change, FreshIs, JudgedIs, TickedIs, TickIs, ReleaseIs}
 use Rattle.scheduler.specs.declared.State.{State}
 use Rattle.scheduler.specs.declared.Changed.{Changed}
 

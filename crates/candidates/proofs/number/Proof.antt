@@ -7,10 +7,10 @@ cast-result : tie.Need-cast-result
 cast-result c = search needs
 
 returns : tie.Need-returns
-returns c = search (needs, named-partition)
+returns c = named-partition _ _ (c .if1 .taken)
 
 returns-2 : tie.Need-returns-2
-returns-2 c = search (needs, named-idle)
+returns-2 c = named-idle _ _ (c .if1 .left)
 
 pub number-spec : {M : Type 1} → statement M
 number-spec = tie.close (tie.spec cast-result returns returns-2)

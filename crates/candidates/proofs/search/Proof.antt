@@ -4,13 +4,13 @@ use Rattle.candidates.proofs.search.Statement.{statement}
 use Rattle.candidates.proofs.search.Tie as tie
 
 returns : tie.Need-returns
-returns c = search (needs, nobody-listed)
+returns c = nobody-listed _ _ _ _ _ (c .if1 .taken)
 
 search-within-requires : tie.Need-search-within-requires
 search-within-requires c κs = search needs
 
 returns-2 : tie.Need-returns-2
-returns-2 c = search needs
+returns-2 c = c .search-within .ensures
 
 pub search-spec : {M : Type 1} → statement M
 search-spec = tie.close (tie.spec returns search-within-requires returns-2)

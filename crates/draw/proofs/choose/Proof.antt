@@ -11,7 +11,7 @@ weigh-requires : tie.Need-weigh-requires
 weigh-requires c κs = search (needs, usable)
 
 returns : tie.Need-returns
-returns c = search (needs, draws-idle)
+returns c = draws-idle (c .before .before .before .before .before .args .n) (c .before .before .before .before .before .args .period .now) (c .before .before .before .before .before .args .budget .now) (c .before .before .before .before .before .args .b .now) (c .before .before .before .before .before .args .o .now) _ (c .before .before .before .before .search .ensures) _ (c .before .weigh .ensures) (c .before .before .before .before .before .args .word) (c .if1 .taken)
 
 rem-at : tie.Need-rem-at
 rem-at c = search needs
@@ -20,7 +20,7 @@ pick-at-requires : tie.Need-pick-at-requires
 pick-at-requires c κs = search (needs, found-few, found-fits, scales-fit)
 
 returns-2 : tie.Need-returns-2
-returns-2 c = search (needs, draws)
+returns-2 c = draws (c .before .before .before .before .before .before .before .before .before .before .args .n) (c .before .before .before .before .before .before .before .before .before .before .args .period .now) (c .before .before .before .before .before .before .before .before .before .before .args .budget .now) (c .before .before .before .before .before .before .before .before .before .before .args .b .now) (c .before .before .before .before .before .before .before .before .before .before .args .o .now) _ (c .before .before .before .before .before .before .before .before .before .search .ensures) _ (c .before .before .before .before .before .before .weigh .ensures) (c .before .before .before .before .before .before .before .before .before .before .args .word) _ (c .before .before .before .before .before .if1 .left) (c .pick-at .ensures)
 
 pub choose-spec : {M : Type 1} → statement M
 choose-spec =

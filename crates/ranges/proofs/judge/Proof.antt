@@ -10,7 +10,7 @@ enum-known-table : tie.Need-enum-known-table
 enum-known-table c = search needs
 
 returns : tie.Need-returns
-returns c = search (needs, judged-table, c .before .table .given .1)
+returns c = judged-table _ _ _ _ (c .before .before .before .judge-table .ensures) (c .before .table .given .1)
 
 enum-told : tie.Need-enum-told
 enum-told c = search needs
@@ -19,7 +19,7 @@ judge-state-requires : tie.Need-judge-state-requires
 judge-state-requires c κs = search needs
 
 returns-2 : tie.Need-returns-2
-returns-2 c = search (needs, judged-state, c .before .enum-told .given .1)
+returns-2 c = judged-state _ _ _ _ (c .before .before .before .judge-table .ensures) (c .before .enum-told .given .1) (c .judge-state .ensures)
 
 pub judge-spec : {M : Type 1} → statement M
 judge-spec =

@@ -17,7 +17,7 @@ pair-at-in-range-requires : tie.Need-pair-at-in-range-requires Inv-loop μ-loop
 pair-at-in-range-requires c κs = search needs
 
 returns : tie.Need-returns Inv-loop μ-loop
-returns c = search (needs, bad-state)
+returns c = bad-state _ _ _ _ _ _ _ (c .before .before .before .loop .inv .1) (c .before .before .loop-test .taken) (c .before .pair-at-in-range .ensures) (c .if1 .taken)
 
 add-i : tie.Need-add-i Inv-loop μ-loop
 add-i c = search needs
@@ -29,7 +29,7 @@ loop-again : tie.Need-loop-again Inv-loop μ-loop
 loop-again c = search (needs, state-goes-on)
 
 returns-2 : tie.Need-returns-2 Inv-loop μ-loop
-returns-2 c = search (needs, good-state)
+returns-2 c = good-state _ _ _ _ _ _ (c .before .loop .inv .1) (c .loop-test .left) (c .before .loop .inv .0)
 
 pub judge-state-spec : {M : Type 1} → statement M
 judge-state-spec =

@@ -11,10 +11,10 @@ abbrev μ-loop : tie.MeasureT-loop
 μ-loop n period budget phase i₀ i = n - i
 
 returns : tie.Need-returns Inv-loop μ-loop
-returns c = search (needs, none-there)
+returns c = none-there _ _ _ _ (c .if1 .taken)
 
 returns-2 : tie.Need-returns-2 Inv-loop μ-loop
-returns-2 c = search (needs, too-many)
+returns-2 c = too-many _ _ _ _ (c .before .if1 .left) (c .if2 .taken)
 
 loop-holds : tie.Need-loop-holds Inv-loop μ-loop
 loop-holds c = search (needs, table-begins)
@@ -43,7 +43,7 @@ partition-in-range-requires : tie.Need-partition-in-range-requires Inv-loop μ-l
 partition-in-range-requires c κs = search needs
 
 returns-3 : tie.Need-returns-3 Inv-loop μ-loop
-returns-3 c = search (needs, bad-table)
+returns-3 c = bad-table _ _ _ _ (c .before .before .before .before .before .before .before .before .if1 .left) (c .before .before .before .before .before .before .before .if2 .left) _ _ (c .before .before .before .before .before .before .loop .inv .1) (c .before .before .before .before .before .loop-test .taken) (c .before .partition-in-range .ensures) (c .if3 .taken)
 
 add-i : tie.Need-add-i Inv-loop μ-loop
 add-i c = search needs
@@ -55,7 +55,7 @@ loop-again : tie.Need-loop-again Inv-loop μ-loop
 loop-again c = search (needs, table-goes-on)
 
 returns-4 : tie.Need-returns-4 Inv-loop μ-loop
-returns-4 c = search (needs, good-table)
+returns-4 c = good-table _ _ _ _ (c .before .before .before .if1 .left) (c .before .before .if2 .left) _ (c .before .loop .inv .1) (c .loop-test .left) (c .before .loop .inv .0)
 
 pub judge-table-spec : {M : Type 1} → statement M
 judge-table-spec =

@@ -7,13 +7,13 @@ lies-within-requires : tie.Need-lies-within-requires
 lies-within-requires c κs = search needs
 
 returns : tie.Need-returns
-returns c = search (needs, first-fails)
+returns c = first-fails _ _ _ (c .before .lies-within .ensures) (c .if1 .taken)
 
 lies-within-requires-2 : tie.Need-lies-within-requires-2
 lies-within-requires-2 c κs = search needs
 
 returns-2 : tie.Need-returns-2
-returns-2 c = search (needs, second-decides)
+returns-2 c = second-decides _ _ _ _ (c .before .before .lies-within .ensures) (c .before .if1 .left) (c .lies-within2 .ensures)
 
 pub pair-in-range-spec : {M : Type 1} → statement M
 pair-in-range-spec =

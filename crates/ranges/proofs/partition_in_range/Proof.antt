@@ -7,13 +7,13 @@ lies-within-requires : tie.Need-lies-within-requires
 lies-within-requires c κs = search needs
 
 returns : tie.Need-returns
-returns c = search (needs, bad-period)
+returns c = bad-period _ _ _ _ (c .before .lies-within .ensures) (c .if1 .taken)
 
 lies-within-requires-2 : tie.Need-lies-within-requires-2
 lies-within-requires-2 c κs = search needs
 
 returns-2 : tie.Need-returns-2
-returns-2 c = search (needs, bad-budget)
+returns-2 c = bad-budget _ _ _ _ _ (c .before .before .before .lies-within .ensures) (c .before .before .if1 .left) (c .before .lies-within2 .ensures) (c .if2 .taken)
 
 sub-lies-within : tie.Need-sub-lies-within
 sub-lies-within c = search (needs, some-period)
@@ -22,7 +22,7 @@ lies-within-requires-3 : tie.Need-lies-within-requires-3
 lies-within-requires-3 c κs = search needs
 
 returns-3 : tie.Need-returns-3
-returns-3 c = search (needs, last-is-phase)
+returns-3 c = last-is-phase _ _ _ _ _ _ (c .before .before .before .before .lies-within .ensures) (c .before .before .before .if1 .left) (c .before .before .lies-within2 .ensures) (c .before .if2 .left) (c .lies-within3 .ensures)
 
 pub partition-in-range-spec : {M : Type 1} → statement M
 partition-in-range-spec =
