@@ -159,6 +159,10 @@ pub weights-refused : (gs : List Ground) (cs xs : List ℕ) (v : Verdict) (r : R
 unfolding weighing padded verdictAs
 weights-refused gs cs xs v r e d = sym (ap (λ (x : Option Refused). weighing x cs xs) (sym e ∙ verdict-refused v r d))
 
+-- ---- what is chosen is the decision, wherever a count has been judged
+pub chosen : (n : ℕ) (T B b o : List ℕ) (word pick : ℕ) → n ≤ 16 → ChooseIs n T B b o word pick → pick ≡ decision n T B b o word
+chosen n T B b o word pick few e = e ∙ ap (λ (a : Bool). cond a (decision n T B b o word) idle) (le-leb n 16 few)
+
 -- ---- the first word, if there is one
 no-first-word : (words : List ℕ) → length words ≡ 0 → unless (ltb 0 (length words)) 0 ≡ some 0
 no-first-word words e = rw e
@@ -184,5 +188,5 @@ module _ (n : ℕ) (T B phase b o words : List ℕ) (v : Verdict) (judged : verd
   pub decision-made : (pick : ℕ) → v ≡ verdict.Good → (length words ≡ 0 → ⊥) → ChooseIs n T B b o (words ! 0) pick → gives pick ≡ Said
   unfolding unlessRefused
   decision-made pick d some-there e =
-      ap gives (e ∙ ap (λ (a : Bool). cond a (decision n T B b o (words ! 0)) idle) (le-leb n 16 (few-of-state n T B phase b o v judged d)))
+      ap gives (chosen n T B b o (words ! 0) pick (few-of-state n T B phase b o v judged d) e)
       ∙ says none (not-at-all _ _ _ four v judged d (first-word words some-there))

@@ -41,6 +41,7 @@ pub filled-next : (f : ℕ → ℕ) (xs ys : List ℕ) (i x : ℕ) → ys ≡ fi
 unfolding filled
 filled-next f xs ys i x e d = rw (add-one i, e, d)
 
+-- and where the place has its value already
 pub filled-still : (f : ℕ → ℕ) (xs ys : List ℕ) (i : ℕ) → ys ≡ filled i f xs → xs ! i ≡ f i → ys ≡ filled (i + 1) f xs
 unfolding filled
 filled-still f xs ys i e d =

@@ -1,7 +1,7 @@
 -- The first number below n that passes a test, all of them, those of them, and what a list has.
 use Prim.Native.Nat.{ℕ, zero, suc, _+_, _≤_, _<_, zero-le}
 use mathlib.Core.Path.{_≡_, refl, _∙_, ap, ap₂, sym, subst}
-use mathlib.Core.Bool.{Bool, true, false, cond, _&&_, _||_}
+use mathlib.Core.Bool.{Bool, true, false, cond, not, _&&_, _||_}
 use mathlib.Core.List.{List, [], _∷_, _++_, append-nil, map, map-append}
 use mathlib.Core.Option.{Option, some, none}
 use mathlib.Core.Logic.{_⊎_, inl, inr, ⊎-elim}
@@ -91,13 +91,28 @@ first-same (suc n) p q h =
     (first-same n p q (λ i l. h i (le-step l)))
     (h n (lt-suc-self n))
 
--- ---- a loop that looks for the first
-pub first-next : (i : ℕ) (test : ℕ → Bool) → first i test ≡ none → test i ≡ false → first (i + 1) test ≡ none
-unfolding first
-first-next i test before off = rw (add-one i, before, off)
+-- ---- a loop that looks for the first that fails a test, and has come to i
+module _ (test : ℕ → Bool) where
+  -- none before i fails
+  pub PassTo : ℕ → Type 0
+  PassTo i = first i (λ j. not (test j)) ≡ none
 
-pub first-here : (i n : ℕ) (test : ℕ → Bool) → first i test ≡ none → i < n → test i ≡ true → first n test ≡ some i
-first-here i n test before l on = some-first n test i (record { below = l; passed = on; earlier = first-none i test before })
+  pub pass-begins : PassTo 0
+  unfolding PassTo first
+  pass-begins = refl
+
+  module _ (i : ℕ) (before : PassTo i) where
+    pub pass-next : (r : Bool) → r ≡ test i → not r ≡ false → PassTo (i + 1)
+    unfolding PassTo first
+    pass-next r e on = rw (add-one i, before, sym e, on)
+
+    pub fails-here : (n : ℕ) (r : Bool) → i < n → r ≡ test i → not r ≡ true → first n (λ j. not (test j)) ≡ some i
+    unfolding PassTo
+    fails-here n r l e off = some-first n (λ j. not (test j)) i (record { below = l; passed = ap not (sym e) ∙ off; earlier = first-none i (λ j. not (test j)) before })
+
+    pub none-fails : (n : ℕ) → n ≤ i → i ≤ n → first n (λ j. not (test j)) ≡ none
+    unfolding PassTo
+    none-fails n l k = subst (λ (m : ℕ). first m (λ j. not (test j)) ≡ none) (le-antisymm k l) before
 
 -- ---- what a list has
 pub has-append : (xs ys : List ℕ) (x : ℕ) → has (xs ++ ys) x ≡ (has xs x || has ys x)

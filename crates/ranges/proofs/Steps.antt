@@ -1,10 +1,9 @@
 -- What the tests of this crate's functions amount to, in the shape in which the proofs ask it.
-use Prim.Native.Nat.{ℕ, _+_, _-_, _≤_, _<_}
-use mathlib.Core.Path.{_≡_, refl, sym, _∙_, ap, ap₂, subst}
+use Prim.Native.Nat.{ℕ, _-_, _≤_, _<_}
+use mathlib.Core.Path.{_≡_, sym, _∙_, ap, ap₂}
 use mathlib.Core.Bool.{Bool, true, false, not, _&&_}
 use mathlib.Core.List.{List, [], _∷_}
-use mathlib.Core.Option.{none}
-use native.Mathlib.Nat.{le-antisymm}
+use mathlib.Core.Option.{some, none}
 use native.Mathlib.Omega.{arith}
 use borrow.Author.Tests.{le-leb, lt-leb, lt-ltb, le-ltb, eq-eqb, ne-eqb, not-true, not-false}
 use lib.Dec.{leb, eqb}
@@ -15,7 +14,6 @@ use Rattle.rules.specs.declared.Refusal.the-variants.{BadPartition, BadPair}
 use Rattle.ranges.specs.Verdicts.{verdictAs}
 use Rattle.ranges.specs.declared.Verdict.the-variants as verdict
 use Rattle.laws.proofs.Tests.{within-low}
-use Rattle.laws.proofs.Places.{first-next, first-here}
 
 pub too-low : (low high x : ℕ) → x < low → false ≡ within low high x
 too-low low high x l = sym (rw (lt-leb low x l))
@@ -63,20 +61,9 @@ module _ (n : ℕ) (T B b o : List ℕ) (i : ℕ) where
 
 -- ---- judging a table, entry by entry
 module _ (n : ℕ) (T B phase : List ℕ) where
-  badPartition : ℕ → Bool
-  badPartition i = not (partitionInRange (T ! i) (B ! i) (phase ! i))
-
-  -- no partition up to i is bad
-  pub TableUpTo : ℕ → Type 0
-  TableUpTo i = first i badPartition ≡ none
-
-  pub table-begins : TableUpTo 0
-  unfolding TableUpTo first
-  table-begins = refl
-
-  pub table-goes-on : (i : ℕ) (r : Bool) → TableUpTo i → r ≡ partitionInRange (T ! i) (B ! i) (phase ! i) → not r ≡ false → TableUpTo (i + 1)
-  unfolding TableUpTo badPartition
-  table-goes-on i r before e on = first-next i badPartition before (ap not (sym e) ∙ on)
+  -- the test of one of its partitions
+  abbrev pub partition : ℕ → Bool
+  partition i = partitionInRange (T ! i) (B ! i) (phase ! i)
 
   pub none-there : n ≡ 0 → verdictAs (verdict.Refused (BadPartition 0)) ≡ refusal (badTable n T B phase ∷ [])
   unfolding verdictAs refusal firstBadPartition
@@ -88,45 +75,24 @@ module _ (n : ℕ) (T B phase : List ℕ) where
     too-many l = rw (ne-eqb n 0 some-there, lt-ltb 16 n l)
 
     module _ (not-many : n ≤ 16) where
-      by-fields : refusal (badTable n T B phase ∷ []) ≡ unlessBefore 1 (first n badPartition) none
-      unfolding refusal firstBadPartition badPartition
+      by-fields : refusal (badTable n T B phase ∷ []) ≡ unlessBefore 1 (first n (λ i. not (partition i))) none
+      unfolding refusal firstBadPartition
       by-fields = rw (ne-eqb n 0 some-there, le-ltb 16 n not-many)
 
-      pub bad-table : (i : ℕ) (r : Bool) → TableUpTo i → i < n → r ≡ partitionInRange (T ! i) (B ! i) (phase ! i) → not r ≡ true
-          → verdictAs (verdict.Refused (BadPartition i)) ≡ refusal (badTable n T B phase ∷ [])
-      unfolding verdictAs TableUpTo badPartition
-      bad-table i r before l e off = sym (by-fields ∙ rw (first-here i n badPartition before l (ap not (sym e) ∙ off)))
+      pub bad-table : (i : ℕ) → first n (λ j. not (partition j)) ≡ some i → verdictAs (verdict.Refused (BadPartition i)) ≡ refusal (badTable n T B phase ∷ [])
+      unfolding verdictAs
+      bad-table i e = sym (by-fields ∙ rw e)
 
-      pub good-table : (i : ℕ) → TableUpTo i → n ≤ i → i ≤ n → verdictAs verdict.Good ≡ refusal (badTable n T B phase ∷ [])
-      unfolding verdictAs TableUpTo
-      good-table i before l k =
-          let all-of-them : first n badPartition ≡ none = subst (λ (m : ℕ). first m badPartition ≡ none) (le-antisymm k l) before in
-          sym (by-fields ∙ rw all-of-them)
+      pub good-table : first n (λ j. not (partition j)) ≡ none → verdictAs verdict.Good ≡ refusal (badTable n T B phase ∷ [])
+      unfolding verdictAs
+      good-table e = sym (by-fields ∙ rw e)
 
 -- ---- judging a state, pair by pair
 module _ (n : ℕ) (T B b o : List ℕ) where
-  badPair : ℕ → Bool
-  badPair i = not (pairInRange n T B b o i)
+  pub bad-state : (i : ℕ) → first 16 (λ j. not (pairInRange n T B b o j)) ≡ some i → verdictAs (verdict.Refused (BadPair i)) ≡ refusal (badState n T B b o ∷ [])
+  unfolding verdictAs refusal firstBadPair
+  bad-state i e = rw e
 
-  -- no pair up to i is bad
-  pub StateUpTo : ℕ → Type 0
-  StateUpTo i = first i badPair ≡ none
-
-  pub state-begins : StateUpTo 0
-  unfolding StateUpTo first
-  state-begins = refl
-
-  pub state-goes-on : (i : ℕ) (r : Bool) → StateUpTo i → r ≡ pairInRange n T B b o i → not r ≡ false → StateUpTo (i + 1)
-  unfolding StateUpTo badPair
-  state-goes-on i r before e on = first-next i badPair before (ap not (sym e) ∙ on)
-
-  pub bad-state : (i : ℕ) (r : Bool) → StateUpTo i → i < 16 → r ≡ pairInRange n T B b o i → not r ≡ true
-      → verdictAs (verdict.Refused (BadPair i)) ≡ refusal (badState n T B b o ∷ [])
-  unfolding verdictAs refusal StateUpTo badPair firstBadPair
-  bad-state i r before l e off = rw (first-here i 16 badPair before l (ap not (sym e) ∙ off))
-
-  pub good-state : (i : ℕ) → StateUpTo i → 16 ≤ i → i ≤ 16 → verdictAs verdict.Good ≡ refusal (badState n T B b o ∷ [])
-  unfolding verdictAs refusal StateUpTo badPair firstBadPair
-  good-state i before l k =
-      let all-of-them : first 16 badPair ≡ none = subst (λ (m : ℕ). first m badPair ≡ none) (le-antisymm k l) before in
-      rw all-of-them
+  pub good-state : first 16 (λ j. not (pairInRange n T B b o j)) ≡ none → verdictAs verdict.Good ≡ refusal (badState n T B b o ∷ [])
+  unfolding verdictAs refusal firstBadPair
+  good-state e = rw e

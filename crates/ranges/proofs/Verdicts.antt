@@ -23,12 +23,13 @@ pub verdict-good : (v : Verdict) → v ≡ verdict.Good → verdictAs v ≡ none
 unfolding verdictAs
 verdict-good v e = ap verdictAs e
 
+-- a ground that stands before others: where it applies it is the refusal, else they decide
 module _ (number : ℕ) (later : Option Refused) where
-  refused-before : (x : Option ℕ) (r : Refused) → unlessBefore number x none ≡ some r → unlessBefore number x later ≡ some r
+  pub refused-before : (x : Option ℕ) (r : Refused) → unlessBefore number x none ≡ some r → unlessBefore number x later ≡ some r
   refused-before (some second) r e = e
   refused-before none r e = none-is-some e
 
-  nothing-before : (x : Option ℕ) → unlessBefore number x none ≡ none → unlessBefore number x later ≡ later
+  pub nothing-before : (x : Option ℕ) → unlessBefore number x none ≡ none → unlessBefore number x later ≡ later
   nothing-before (some second) e = some-is-none e
   nothing-before none e = refl
 

@@ -1,15 +1,13 @@
 -- From the verdicts, the pick and the tick to what a step and a run promise.
 use Prim.Native.Nat.{ℕ, _≤_, _<_}
 use mathlib.Core.Path.{_≡_, sym, _∙_, ap}
-use mathlib.Core.Bool.{Bool, cond}
+use mathlib.Core.Bool.{Bool}
 use mathlib.Core.List.{List}
 use mathlib.Core.Option.{Option, some, none}
 use borrow.Author.Tests.{le-leb, lt-leb}
 use lib.ListN.{length}
 use Rattle.basis.specs.Words.{unless}
 use Rattle.rules.specs.Numbers.{Pairs}
-use Rattle.rules.specs.Candidates.{idle}
-use Rattle.rules.specs.Pick.{decision}
 use Rattle.rules.specs.Tick.{tick}
 use Rattle.rules.specs.Run.{Ran}
 use Rattle.rules.specs.Refusals.{Refused, refusedAs, Ground, refusal}
@@ -23,6 +21,7 @@ use Rattle.ranges.specs.declared.Verdict.the-variants as verdict
 use Rattle.ranges.proofs.Verdicts.{verdict-refused, verdict-good, seven}
 use Rattle.ranges.proofs.Outcomes.{refused-early, refused-late, not-at-all, few-of-state}
 use Rattle.draw.specs.Promises.{ChooseIs}
+use Rattle.draw.proofs.Calls.{chosen}
 use Rattle.draw.specs.declared.Decision.the-variants as decided
 use Rattle.scheduler.specs.States.{pairs}
 use Rattle.scheduler.specs.Promises.{JudgedIs, TickedIs}
@@ -58,15 +57,11 @@ module _ (t : Table) (s : State) (v : Verdict) (judged : JudgedIs t s v) where
   run-refused words buffer q d = no-run _ (pairs s) buffer _ q (refused-early _ _ _ seven v judged q d)
 
   module _ (good : v ≡ verdict.Good) where
-    picked : (word pick : ℕ) → ChooseIs (t .count) (t .period) (t .budget) (s .b) (s .o) word pick → pick ≡ decision (t .count) (t .period) (t .budget) (s .b) (s .o) word
-    picked word pick e =
-        e ∙ ap (λ (a : Bool). cond a (decision (t .count) (t .period) (t .budget) (s .b) (s .o) word) idle) (le-leb (t .count) 16 (few-of-state _ _ _ _ _ _ v judged good))
-
     pub step-made : (word pick : ℕ) (f : State) → ChooseIs (t .count) (t .period) (t .budget) (s .b) (s .o) word pick
         → TickedIs (t .count) (t .period) (t .budget) s pick f → StepIs t s word (record { state = f; decision = decided.Pick pick })
     step-made word pick f e d =
         ap (λ (p : Pairs). record { after = p; says = gives pick }) d
-        ∙ ap (λ p. record { after = tick (t .count) (t .period) (t .budget) (s .b) (s .o) p; says = gives p }) (picked word pick e)
+        ∙ ap (λ p. record { after = tick (t .count) (t .period) (t .budget) (s .b) (s .o) p; says = gives p }) (chosen (t .count) (t .period) (t .budget) (s .b) (s .o) word pick (few-of-state _ _ _ _ _ _ v judged good) e)
         ∙ a-step _ (pairs s) _ _ (sym judged ∙ verdict-good v good)
 
     pub run-short : (words buffer : List ℕ) → length buffer < length words

@@ -1,22 +1,20 @@
 -- The loop of a run: the picks so far, the rest of the buffer as it was, and the state that the words so far lead to.
 use Prim.Native.Nat.{ℕ, suc, _+_, _≤_, _<_}
 use mathlib.Core.Path.{_≡_, refl, sym, _∙_, ap, ap₂}
-use mathlib.Core.Bool.{Bool, cond}
 use mathlib.Core.List.{List, [], _∷_, _++_, append-assoc}
 use native.Mathlib.Nat.{le-of-lt, le-antisymm}
 use native.Mathlib.Numerals.{add-one}
 use native.Mathlib.Omega.{arith}
-use borrow.Author.Tests.{le-leb}
 use lib.ListN.{length, set, take, drop, length-set}
 use lib.Seq.{take-suc, drop-cons, set-append-seam, take-all, length-take-le}
 use Rattle.basis.specs.Words.{_!_}
 use Rattle.rules.specs.Numbers.{Pairs}
-use Rattle.rules.specs.Candidates.{idle}
 use Rattle.rules.specs.Pick.{decision}
 use Rattle.rules.specs.Tick.{tick}
 use Rattle.rules.specs.Run.{Ran, run}
 use Rattle.laws.proofs.Run.{run-next, run-length}
 use Rattle.draw.specs.Promises.{ChooseIs}
+use Rattle.draw.proofs.Calls.{chosen}
 use Rattle.scheduler.specs.States.{pairs}
 use Rattle.runs.specs.Promises.{Filled}
 use Rattle.scheduler.specs.declared.State.{State}
@@ -36,10 +34,7 @@ module _ (n : ℕ) (T B : List ℕ) (s : State) (words buffer : List ℕ) where
   run-begins = record { after = refl; filled = refl; long = refl }
 
   module _ (i : ℕ) (now : State) (picks : List ℕ) (here : RanTo i now picks) where
-    module _ (few : n ≤ 16) (fits : length words ≤ length buffer) (l : i < length words) (pick : ℕ) (chosen : ChooseIs n T B (now .b) (now .o) (words ! i) pick) where
-      picked : pick ≡ decision n T B (now .b) (now .o) (words ! i)
-      picked = chosen ∙ ap (λ (a : Bool). cond a (decision n T B (now .b) (now .o) (words ! i)) idle) (le-leb n 16 few)
-
+    module _ (few : n ≤ 16) (fits : length words ≤ length buffer) (l : i < length words) (pick : ℕ) (choice : ChooseIs n T B (now .b) (now .o) (words ! i) pick) where
       one-more : run n T B (pairs s) (take (i + 1) words) ≡ record { picks = upTo i .picks ++ pick ∷ []; after = tick n T B (now .b) (now .o) pick }
       unfolding upTo
       one-more =
@@ -52,7 +47,7 @@ module _ (n : ℕ) (T B : List ℕ) (s : State) (words buffer : List ℕ) where
               (let there : Pairs = run n T B (pairs s) (take i words) .after in
               record { picks = run n T B (pairs s) (take i words) .picks ++ decision n T B (there .b) (there .o) (words ! i) ∷ []; after = tick n T B (there .b) (there .o) (decision n T B (there .b) (there .o) (words ! i)) })
           moved e =
-              ap (λ p. record { picks = run n T B (pairs s) (take i words) .picks ++ p ∷ []; after = tick n T B (now .b) (now .o) p }) picked
+              ap (λ p. record { picks = run n T B (pairs s) (take i words) .picks ++ p ∷ []; after = tick n T B (now .b) (now .o) p }) (chosen n T B (now .b) (now .o) (words ! i) pick few choice)
               ∙ ap (λ (x : Pairs). record { picks = run n T B (pairs s) (take i words) .picks ++ decision n T B (x .b) (x .o) (words ! i) ∷ []; after = tick n T B (x .b) (x .o) (decision n T B (x .b) (x .o) (words ! i)) }) e
 
       pub run-goes-on : (next : State) → _≡_ {A = Pairs} (record { b = next .b; o = next .o }) (tick n T B (now .b) (now .o) pick) → RanTo (i + 1) next (set picks i pick)

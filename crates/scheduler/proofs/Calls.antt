@@ -21,7 +21,7 @@ use Rattle.rules.specs.declared.Refusal.the-variants.{NotAdmitted, NotListed, N
 use Rattle.rules.specs.declared.Table.{Table}
 use Rattle.ranges.specs.declared.Verdict.{Verdict}
 use Rattle.ranges.specs.declared.Verdict.the-variants as verdict
-use Rattle.ranges.proofs.Verdicts.{five, six}
+use Rattle.ranges.proofs.Verdicts.{refused-before, nothing-before, five, six}
 use Rattle.ranges.proofs.Outcomes.{refused-early, refused-late, not-at-all, few-of-state, was-refused, was-given, few-partitions, none-before}
 use Rattle.standing.specs.Answers.{testAs}
 use Rattle.standing.specs.Promises.{AdmissionIs}
@@ -45,21 +45,13 @@ module _ (gs : List Ground) (before after : Pairs) (r : Changed) where
 
 -- ---- a fresh start
 module _ (n : ℕ) (T B phase : List ℕ) where
-  first-bad : (b a : Option ℕ) (q : Refused) → unlessBefore 1 b none ≡ some q → unlessBefore 1 b (unlessBefore 2 a none) ≡ some q
-  first-bad none a q e = cc
-  first-bad (some i) a q e = e
-
-  then-admitted : (b a : Option ℕ) → unlessBefore 1 b none ≡ none → unlessBefore 1 b (unlessBefore 2 a none) ≡ unlessBefore 2 a none
-  then-admitted none a e = refl
-  then-admitted (some i) a e = cc
-
   table-refused : (q : Refused) → refusal (badTable n T B phase ∷ []) ≡ some q → refusal (badTable n T B phase ∷ notAdmitted n T B ∷ []) ≡ some q
   unfolding refusal
-  table-refused q e = first-bad (firstBadPartition n T B phase) (firstUnadmitted n T B) q e
+  table-refused q e = refused-before 1 _ (firstBadPartition n T B phase) q e
 
   by-admission : (a : Option ℕ) → refusal (badTable n T B phase ∷ []) ≡ none → a ≡ firstUnadmitted n T B → refusal (badTable n T B phase ∷ notAdmitted n T B ∷ []) ≡ unlessBefore 2 a none
   unfolding refusal
-  by-admission a e d = then-admitted (firstBadPartition n T B phase) (firstUnadmitted n T B) e ∙ ap (λ (u : Option ℕ). unlessBefore 2 u none) (sym d)
+  by-admission a e d = nothing-before 1 _ (firstBadPartition n T B phase) e ∙ ap (λ (u : Option ℕ). unlessBefore 2 u none) (sym d)
 
   table-fine : refusal (badTable n T B phase ∷ []) ≡ none → n ≤ 16
   unfolding refusal

@@ -1,10 +1,9 @@
 -- From a pass to the first that fails, to admission and to one partition's R.
-use Prim.Native.Nat.{ℕ, _+_, _≤_, _<_}
-use mathlib.Core.Path.{_≡_, refl, sym, _∙_, ap, subst}
-use mathlib.Core.Bool.{Bool, true, false, cond, not, _&&_}
+use Prim.Native.Nat.{ℕ, _≤_, _<_}
+use mathlib.Core.Path.{_≡_, sym, _∙_, ap}
+use mathlib.Core.Bool.{Bool, cond, not, _&&_}
 use mathlib.Core.List.{List, [], _∷_}
 use mathlib.Core.Option.{Option, some, none}
-use native.Mathlib.Nat.{le-antisymm}
 use native.Mathlib.Omega.{arith}
 use borrow.Author.Tests.{lt-ltb}
 use Rattle.basis.specs.Words.{first, found}
@@ -13,7 +12,7 @@ use Rattle.rules.specs.Admission.{responseWithin, firstUnadmitted}
 use Rattle.rules.specs.BusyLength.{busyTest, passes}
 use Rattle.rules.specs.StandingTest.{firstFailing}
 use Rattle.rules.specs.Refusals.{ground, badTable, badTableOrIndex, refusal}
-use Rattle.laws.proofs.Places.{first-next, first-here, first-same}
+use Rattle.laws.proofs.Places.{first-same}
 use Rattle.laws.proofs.Numbers.{table-good}
 use Rattle.laws.proofs.Admission.{admission-is-busy}
 use Rattle.ranges.specs.Outcome.{Outcome, gives, unlessRefused}
@@ -28,36 +27,12 @@ use Rattle.busy.specs.declared.Span.the-variants.{Within, Over}
 
 -- ---- the first that fails
 module _ (n : ℕ) (T B b o : List ℕ) where
-  failing : ℕ → Bool
-  failing h = not (passes T B b o h 0)
+  pub tested : (h : ℕ) (r : Bool) → n ≤ 16 → h < n → PassesIs T B b o h 0 r → r ≡ passes T B b o h 0
+  tested h r few l e = e ∙ ap (λ (a : Bool). a && passes T B b o h 0) (lt-ltb h 16 (omega arith))
 
-  -- none above h fails
-  pub StandsUpTo : ℕ → Type 0
-  StandsUpTo h = first h failing ≡ none
-
-  pub stands-begins : StandsUpTo 0
-  unfolding StandsUpTo first
-  stands-begins = refl
-
-  module _ (few : n ≤ 16) where
-    tested : (h : ℕ) (r t : Bool) → h < n → PassesIs T B b o h 0 r → not r ≡ t → failing h ≡ t
-    unfolding failing
-    tested h r t l e off = ap not (sym e′) ∙ off
-      where
-        e′ : r ≡ passes T B b o h 0
-        e′ = e ∙ ap (λ (a : Bool). a && passes T B b o h 0) (lt-ltb h 16 (omega arith))
-
-    pub stands-goes-on : (h : ℕ) (r : Bool) → StandsUpTo h → h < n → PassesIs T B b o h 0 r → not r ≡ false → StandsUpTo (h + 1)
-    unfolding StandsUpTo
-    stands-goes-on h r before l e on = first-next h failing before (tested h r false l e on)
-
-    pub first-fails : (h : ℕ) (r : Bool) → StandsUpTo h → h < n → PassesIs T B b o h 0 r → not r ≡ true → gives (some h) ≡ gives (firstFailing n T B b o)
-    unfolding StandsUpTo firstFailing failing
-    first-fails h r before l e off = ap gives (sym (first-here h n failing before l (tested h r true l e off)))
-
-  pub none-fails : (h : ℕ) → StandsUpTo h → n ≤ h → h ≤ n → gives none ≡ gives (firstFailing n T B b o)
-  unfolding StandsUpTo firstFailing failing
-  none-fails h before l k = ap gives (sym (subst (λ (m : ℕ). first m failing ≡ none) (le-antisymm k l) before))
+  pub said : (x : Option ℕ) → first n (λ h. not (passes T B b o h 0)) ≡ x → gives x ≡ gives (firstFailing n T B b o)
+  unfolding firstFailing
+  said x e = ap gives (sym e)
 
 module _ (n : ℕ) (T B phase : List ℕ) where
   -- ---- admission is the standing test of full budgets

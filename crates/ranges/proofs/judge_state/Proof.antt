@@ -1,23 +1,26 @@
-use Prim.Native.Nat.{_-_, _≤_}
+use Prim.Native.Nat.{_-_, _≤_, zero-le}
+use native.Mathlib.Omega.{arith}
 use borrow.Author.Needs.{needs}
-use Rattle.ranges.proofs.Steps.{StateUpTo, state-begins, state-goes-on, bad-state, good-state}
+use Rattle.rules.specs.Numbers.{pairInRange}
+use Rattle.laws.proofs.Places.{PassTo, pass-begins, pass-next, fails-here, none-fails}
+use Rattle.ranges.proofs.Steps.{bad-state, good-state}
 use Rattle.ranges.proofs.judge_state.Statement.{statement}
 use Rattle.ranges.proofs.judge_state.Tie as tie
 
 abbrev Inv-loop : tie.InvT-loop
-Inv-loop n period budget b o i₀ i = (i ≤ 16) × StateUpTo n period budget b o i
+Inv-loop n period budget b o i₀ i = (i ≤ 16) × PassTo (pairInRange n period budget b o) i
 
 abbrev μ-loop : tie.MeasureT-loop
 μ-loop n period budget b o i₀ i = 16 - i
 
 loop-holds : tie.Need-loop-holds Inv-loop μ-loop
-loop-holds c = search (needs, state-begins)
+loop-holds c = (zero-le, pass-begins _)
 
 pair-at-in-range-requires : tie.Need-pair-at-in-range-requires Inv-loop μ-loop
 pair-at-in-range-requires c κs = search needs
 
 returns : tie.Need-returns Inv-loop μ-loop
-returns c = bad-state _ _ _ _ _ _ _ (c .before .before .before .loop .inv .1) (c .before .before .loop-test .taken) (c .before .pair-at-in-range .ensures) (c .if1 .taken)
+returns c = bad-state _ _ _ _ _ _ (fails-here _ _ (c .before .before .before .loop .inv .1) _ _ (c .before .before .loop-test .taken) (c .before .pair-at-in-range .ensures) (c .if1 .taken))
 
 add-i : tie.Need-add-i Inv-loop μ-loop
 add-i c = search needs
@@ -26,10 +29,10 @@ loop-less : tie.Need-loop-less Inv-loop μ-loop
 loop-less c = search needs
 
 loop-again : tie.Need-loop-again Inv-loop μ-loop
-loop-again c = search (needs, state-goes-on)
+loop-again c = (omega arith, pass-next _ _ (c .before .before .before .loop .inv .1) _ (c .before .pair-at-in-range .ensures) (c .if1 .left))
 
 returns-2 : tie.Need-returns-2 Inv-loop μ-loop
-returns-2 c = good-state _ _ _ _ _ _ (c .before .loop .inv .1) (c .loop-test .left) (c .before .loop .inv .0)
+returns-2 c = good-state _ _ _ _ _ (none-fails _ _ (c .before .loop .inv .1) _ (c .loop-test .left) (c .before .loop .inv .0))
 
 pub judge-state-spec : {M : Type 1} → statement M
 judge-state-spec =

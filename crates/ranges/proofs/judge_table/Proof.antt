@@ -1,11 +1,13 @@
-use Prim.Native.Nat.{_-_, _≤_}
+use Prim.Native.Nat.{_-_, _≤_, zero-le}
+use native.Mathlib.Omega.{arith}
 use borrow.Author.Needs.{needs}
-use Rattle.ranges.proofs.Steps.{TableUpTo, table-begins, table-goes-on, none-there, too-many, bad-table, good-table}
+use Rattle.laws.proofs.Places.{PassTo, pass-begins, pass-next, fails-here, none-fails}
+use Rattle.ranges.proofs.Steps.{partition, none-there, too-many, bad-table, good-table}
 use Rattle.ranges.proofs.judge_table.Statement.{statement}
 use Rattle.ranges.proofs.judge_table.Tie as tie
 
 abbrev Inv-loop : tie.InvT-loop
-Inv-loop n period budget phase i₀ i = (i ≤ n) × TableUpTo n period budget phase i
+Inv-loop n period budget phase i₀ i = (i ≤ n) × PassTo (partition n period budget phase) i
 
 abbrev μ-loop : tie.MeasureT-loop
 μ-loop n period budget phase i₀ i = n - i
@@ -17,7 +19,7 @@ returns-2 : tie.Need-returns-2 Inv-loop μ-loop
 returns-2 c = too-many _ _ _ _ (c .before .if1 .left) (c .if2 .taken)
 
 loop-holds : tie.Need-loop-holds Inv-loop μ-loop
-loop-holds c = search (needs, table-begins)
+loop-holds c = (zero-le, pass-begins _)
 
 mul-partition-in-range : tie.Need-mul-partition-in-range Inv-loop μ-loop
 mul-partition-in-range c = search needs
@@ -43,7 +45,7 @@ partition-in-range-requires : tie.Need-partition-in-range-requires Inv-loop μ-l
 partition-in-range-requires c κs = search needs
 
 returns-3 : tie.Need-returns-3 Inv-loop μ-loop
-returns-3 c = bad-table _ _ _ _ (c .before .before .before .before .before .before .before .before .if1 .left) (c .before .before .before .before .before .before .before .if2 .left) _ _ (c .before .before .before .before .before .before .loop .inv .1) (c .before .before .before .before .before .loop-test .taken) (c .before .partition-in-range .ensures) (c .if3 .taken)
+returns-3 c = bad-table _ _ _ _ (c .before .before .before .before .before .before .before .before .if1 .left) (c .before .before .before .before .before .before .before .if2 .left) _ (fails-here _ _ (c .before .before .before .before .before .before .loop .inv .1) _ _ (c .before .before .before .before .before .loop-test .taken) (c .before .partition-in-range .ensures) (c .if3 .taken))
 
 add-i : tie.Need-add-i Inv-loop μ-loop
 add-i c = search needs
@@ -52,10 +54,10 @@ loop-less : tie.Need-loop-less Inv-loop μ-loop
 loop-less c = search needs
 
 loop-again : tie.Need-loop-again Inv-loop μ-loop
-loop-again c = search (needs, table-goes-on)
+loop-again c = (omega arith, pass-next _ _ (c .before .before .before .before .before .before .loop .inv .1) _ (c .before .partition-in-range .ensures) (c .if3 .left))
 
 returns-4 : tie.Need-returns-4 Inv-loop μ-loop
-returns-4 c = good-table _ _ _ _ (c .before .before .before .if1 .left) (c .before .before .if2 .left) _ (c .before .loop .inv .1) (c .loop-test .left) (c .before .loop .inv .0)
+returns-4 c = good-table _ _ _ _ (c .before .before .before .if1 .left) (c .before .before .if2 .left) (none-fails _ _ (c .before .loop .inv .1) _ (c .loop-test .left) (c .before .loop .inv .0))
 
 pub judge-table-spec : {M : Type 1} → statement M
 judge-table-spec =

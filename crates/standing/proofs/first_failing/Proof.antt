@@ -1,24 +1,26 @@
 use Prim.Native.Nat.{_-_, _≤_, zero-le}
 use native.Mathlib.Omega.{arith}
 use borrow.Author.Needs.{needs}
-use Rattle.standing.proofs.Tests.{StandsUpTo, stands-begins, stands-goes-on, first-fails, none-fails}
+use Rattle.rules.specs.BusyLength.{passes}
+use Rattle.laws.proofs.Places.{PassTo, pass-begins, pass-next, fails-here, none-fails}
+use Rattle.standing.proofs.Tests.{tested, said}
 use Rattle.standing.proofs.first_failing.Statement.{statement}
 use Rattle.standing.proofs.first_failing.Tie as tie
 
 abbrev Inv-loop : tie.InvT-loop
-Inv-loop n period budget b o h₀ h = (h ≤ n) × StandsUpTo n period budget b o h
+Inv-loop n period budget b o h₀ h = (h ≤ n) × PassTo (λ j. passes period budget b o j 0) h
 
 abbrev μ-loop : tie.MeasureT-loop
 μ-loop n period budget b o h₀ h = n - h
 
 loop-holds : tie.Need-loop-holds Inv-loop μ-loop
-loop-holds c = (zero-le, stands-begins _ _ _ _ _)
+loop-holds c = (zero-le, pass-begins _)
 
 passes-requires : tie.Need-passes-requires Inv-loop μ-loop
 passes-requires c κs = search needs
 
 returns : tie.Need-returns Inv-loop μ-loop
-returns c = first-fails _ _ _ _ _ (c .before .before .before .before .pre) _ _ (c .before .before .before .loop .inv .1) (c .before .before .loop-test .taken) (c .before .passes .ensures) (c .if1 .taken)
+returns c = said _ _ _ _ _ _ (fails-here _ _ (c .before .before .before .loop .inv .1) _ _ (c .before .before .loop-test .taken) (tested _ _ _ _ _ _ _ (c .before .before .before .before .pre) (c .before .before .loop-test .taken) (c .before .passes .ensures)) (c .if1 .taken))
 
 add-h : tie.Need-add-h Inv-loop μ-loop
 add-h c = search needs
@@ -27,10 +29,10 @@ loop-less : tie.Need-loop-less Inv-loop μ-loop
 loop-less c = search needs
 
 loop-again : tie.Need-loop-again Inv-loop μ-loop
-loop-again c = (omega arith, stands-goes-on _ _ _ _ _ (c .before .before .before .before .pre) _ _ (c .before .before .before .loop .inv .1) (c .before .before .loop-test .taken) (c .before .passes .ensures) (c .if1 .left))
+loop-again c = (omega arith, pass-next _ _ (c .before .before .before .loop .inv .1) _ (tested _ _ _ _ _ _ _ (c .before .before .before .before .pre) (c .before .before .loop-test .taken) (c .before .passes .ensures)) (c .if1 .left))
 
 returns-2 : tie.Need-returns-2 Inv-loop μ-loop
-returns-2 c = none-fails _ _ _ _ _ _ (c .before .loop .inv .1) (c .loop-test .left) (c .before .loop .inv .0)
+returns-2 c = said _ _ _ _ _ _ (none-fails _ _ (c .before .loop .inv .1) _ (c .loop-test .left) (c .before .loop .inv .0))
 
 pub first-failing-spec : {M : Type 1} → statement M
 first-failing-spec =
