@@ -1,6 +1,6 @@
 -- The busy test: its repetition finds the least fixed point, and finds one within the deadline exactly when some W within it has a sum of at most W.
 use Prim.Native.Nat.{ℕ, suc, _+_, _≤_}
-use mathlib.Core.Path.{_≡_, ap, _∙_}
+use mathlib.Core.Path.{_≡_, refl, ap, _∙_}
 use mathlib.Core.Bool.{Bool, true, false, cond}
 use mathlib.Core.List.{List}
 use mathlib.Core.Logic.{_↔_}
@@ -101,14 +101,6 @@ module _ (T B b o : List ℕ) where
   pub passes-exactly : (h w : ℕ) → (passes T B b o h w ≡ true) ↔ ((W : ℕ) × Witness h w W)
   passes-exactly h w = (passes-witness h w, λ some-W. witness-passes h w (some-W .0) (some-W .1))
 
-  -- a pass with w is a pass with any smaller w
-  pub passes-smaller : (h v w : ℕ) → v ≤ w → passes T B b o h w ≡ true → passes T B b o h v ≡ true
-  unfolding busySum busyStart
-  passes-smaller h v w l p =
-      let some-W = passes-witness h w p in
-      let covers : busySum T B b o h w (some-W .0) ≤ some-W .0 = some-W .1 .covers in
-      witness-passes h v (some-W .0) (record { within = some-W .1 .within; covers = omega arith })
-
   -- an active partition that passes with w has w ticks to spare
   pub passes-spare : (h w : ℕ) → active b h ≡ true → passes T B b o h w ≡ true → w + b ! h ≤ o ! h
   unfolding deadline busyStart
@@ -133,3 +125,23 @@ module _ (T B b o : List ℕ) where
     where
       nothing : (j : ℕ) → 1 ≤ o ! j → refill T B o j 1 ≡ 0
       nothing j l = rw (arrivals-none (o ! j) (T ! j) 1 l) (zero-mul (B ! j))
+
+-- less to begin with, and a pass stays a pass: fewer ticks waiting, or a smaller w
+pub passes-lower : (T B b c o : List ℕ) (h w v : ℕ) → c ! h ≤ b ! h → busyStart c h v ≤ busyStart b h w → passes T B b o h w ≡ true → passes T B c o h v ≡ true
+unfolding deadline busySum refill
+passes-lower T B b c o h w v less start p =
+    let some-W = passes-witness T B b o h w p in
+    witness-passes T B c o h v (some-W .0) (go (some-W .0) (active b h) refl (active c h) refl (some-W .1 .within) (some-W .1 .covers))
+  where
+    go : (W : ℕ) (x : Bool) → active b h ≡ x → (y : Bool) → active c h ≡ y → W ≤ cond x (o ! h) (o ! h + T ! h)
+        → busyStart b h w + sumBelow h (λ j. refill T B o j W) + cond x 0 (refill T B o h W) ≤ W → Witness T B c o h v W
+    go W true d true e within covers = record { within = rw e within; covers = rw e (omega arith) }
+    -- its last tick is gone: no replenishment of its own falls before W, and it has a whole period more
+    go W true d false e within covers =
+        let nothing : refill T B o h W ≡ 0 = rw (arrivals-none (o ! h) (T ! h) W within) (zero-mul (B ! h)) in
+        record { within = rw e (omega arith); covers = rw e (omega arith) }
+    go W false d true e within covers =
+        let none-left = inactive-empty b h d in
+        let some-left = active-some c h e in
+        absurd (omega arith)
+    go W false d false e within covers = record { within = rw e within; covers = rw e (omega arith) }

@@ -1,14 +1,27 @@
--- A list with its first places filled.
+-- A list with one place set, or its first places filled.
 use Prim.Native.Nat.{ℕ, zero, suc, _+_, _≤_, _<_}
 use mathlib.Core.Path.{_≡_, refl, sym, _∙_, ap, ap₂}
+use mathlib.Core.Bool.{Bool, true, false}
 use mathlib.Core.List.{List}
+use mathlib.Core.Logic.{_⊎_, inl, inr}
 use native.Mathlib.Nat.{le-step, le-refl, lt-suc-self}
 use native.Mathlib.Numerals.{add-one}
 use native.Mathlib.Omega.{arith}
+use borrow.Author.Tests.{eqb-true, eqb-false}
+use lib.Dec.{eqb}
 use lib.ListN.{length, set, length-set}
 use lib.Seq.{getD-set-same, getD-set-other, set-out, set-getD}
-use Rattle.laws.proofs.Tests.{below-cases}
+use Rattle.laws.proofs.Tests.{below-or-not, below-cases}
 use Rattle.basis.specs.Words.{_!_, filled}
+
+-- a smaller number at one place: no entry grows
+pub set-lower : (xs : List ℕ) (i x : ℕ) → x ≤ xs ! i → (j : ℕ) → set xs i x ! j ≤ xs ! j
+set-lower xs i x less j = go (eqb j i) refl (below-or-not i (length xs))
+  where
+    go : (a : Bool) → eqb j i ≡ a → (i < length xs) ⊎ (length xs ≤ i) → set xs i x ! j ≤ xs ! j
+    go true e (inl l) = let same = eqb-true j i e in rw (same, getD-set-same xs i x 0 l) less
+    go true e (inr l) = rw (set-out xs i x l) (le-refl (xs ! j))
+    go false e l = rw (getD-set-other xs i j x 0 (eqb-false j i e)) (le-refl (xs ! j))
 
 pub filled-length : (n : ℕ) (f : ℕ → ℕ) (xs : List ℕ) → length (filled n f xs) ≡ length xs
 unfolding filled

@@ -3,16 +3,13 @@ use Prim.Native.Nat.{ℕ, _-_, _≤_, _<_}
 use mathlib.Core.Path.{_≡_, refl, _∙_}
 use mathlib.Core.Bool.{Bool, true, false, cond}
 use mathlib.Core.List.{List}
-use mathlib.Core.Logic.{_⊎_, inl, inr}
 use native.Mathlib.Nat.{le-refl, le-trans}
 use native.Mathlib.Omega.{arith}
-use borrow.Author.Tests.{eqb-true, eqb-false, eq-eqb}
+use borrow.Author.Tests.{eqb-true, eqb-false, eq-eqb, ne-eqb}
 use lib.Dec.{eqb}
 use lib.ListN.{length, set, length-set, getD-replicate}
-use lib.Seq.{getD-set-same, getD-set-other, set-out}
 use Rattle.basis.specs.Words.{_!_, filled}
-use Rattle.laws.proofs.Tests.{below-or-not}
-use Rattle.laws.proofs.Filled.{filled-length, filled-at, filled-beyond}
+use Rattle.laws.proofs.Filled.{filled-length, filled-at, filled-beyond, set-lower}
 use Rattle.rules.specs.Numbers.{mostPartitions, TableInRange, StateInRange}
 use Rattle.rules.specs.FreshStart.{freshB, freshO, freshStart, zeros}
 use Rattle.rules.specs.Tick.{spend, replenishes, nextB, nextO, passTime, tick}
@@ -42,6 +39,14 @@ module _ (n : ℕ) (T B phase : List ℕ) (t : TableInRange n T B phase) where
   -- what a fresh start holds at each place
   started : (f : ℕ → ℕ) (i : ℕ) → i < n → filled n f zeros ! i ≡ f i
   started f i l = filled-at n f zeros i (table .not-many) l
+
+  pub fresh-whole : (i : ℕ) → i < n → phase ! i ≡ 0 → (freshStart n T B phase .b ! i ≡ B ! i) × (freshStart n T B phase .o ! i ≡ T ! i)
+  unfolding freshStart freshB freshO
+  fresh-whole i l e = (started (freshB B phase) i l ∙ rw (eq-eqb (phase ! i) 0 e), started (freshO T phase) i l ∙ rw (eq-eqb (phase ! i) 0 e))
+
+  pub fresh-empty : (i : ℕ) → i < n → ¬ (phase ! i ≡ 0) → freshStart n T B phase .b ! i ≡ 0
+  unfolding freshStart freshB
+  fresh-empty i l other = started (freshB B phase) i l ∙ rw (ne-eqb (phase ! i) 0 other)
 
   unstarted : (f : ℕ → ℕ) (i : ℕ) → n ≤ i → i < mostPartitions → filled n f zeros ! i ≡ 0
   unstarted f i l k = filled-beyond n f zeros i l ∙ zeros-at i k
@@ -85,18 +90,10 @@ module _ (n : ℕ) (T B phase : List ℕ) (t : TableInRange n T B phase) where
         lost : (i : ℕ) → c ! i ≤ b ! i → b ! i ≡ 0 → c ! i ≡ 0
         lost i l e = omega arith
 
-    set-less : (i v : ℕ) → v ≤ b ! i → (j : ℕ) → set b i v ! j ≤ b ! j
-    set-less i v h j = go (eqb j i) refl (below-or-not i (length b))
-      where
-        go : (a : Bool) → eqb j i ≡ a → (i < length b) ⊎ (length b ≤ i) → set b i v ! j ≤ b ! j
-        go true e (inl l) = let same = eqb-true j i e in rw (same, getD-set-same b i v 0 l) h
-        go true e (inr l) = rw (set-out b i v l) (le-refl (b ! j))
-        go false e l = rw (getD-set-other b i j v 0 (eqb-false j i e)) (le-refl (b ! j))
-
     -- a release keeps a state in range
     pub release-in-range : (i : ℕ) → StateInRange n T B (release b o i .b) (release b o i .o)
     unfolding release
-    release-in-range i = lowered (set b i 0) (length-set b i 0 ∙ s .budgets) (set-less i 0 (omega arith))
+    release-in-range i = lowered (set b i 0) (length-set b i 0 ∙ s .budgets) (set-lower b i 0 (omega arith))
 
     -- and so does the first step of a tick
     pub spend-in-range : (pick : ℕ) → StateInRange n T B (spend b pick) o
@@ -105,7 +102,7 @@ module _ (n : ℕ) (T B phase : List ℕ) (t : TableInRange n T B phase) where
       where
         go : (a : Bool) → StateInRange n T B (cond a b (set b pick (b ! pick - 1))) o
         go true = s
-        go false = lowered (set b pick (b ! pick - 1)) (length-set b pick _ ∙ s .budgets) (set-less pick (b ! pick - 1) (omega arith))
+        go false = lowered (set b pick (b ! pick - 1)) (length-set b pick _ ∙ s .budgets) (set-lower b pick (b ! pick - 1) (omega arith))
 
     next-pair : (i : ℕ) → 1 ≤ T ! i → GoodPair (T ! i) (B ! i) (b ! i) (o ! i) → GoodPair (T ! i) (B ! i) (nextB B b o i) (nextO T o i)
     unfolding nextB nextO
@@ -121,6 +118,14 @@ module _ (n : ℕ) (T B phase : List ℕ) (t : TableInRange n T B phase) where
     -- what passing time leaves at each place
     passed : (f : ℕ → ℕ) (xs : List ℕ) → length xs ≡ mostPartitions → (i : ℕ) → i < n → filled n f xs ! i ≡ f i
     passed f xs long i l = filled-at n f xs i (rw long (table .not-many)) l
+
+    pub time-renews : (i : ℕ) → i < n → replenishes o i ≡ true → (passTime n T B b o .b ! i ≡ B ! i) × (passTime n T B b o .o ! i ≡ T ! i)
+    unfolding passTime nextB nextO
+    time-renews i l due = (passed (nextB B b o) b (s .budgets) i l ∙ rw due, passed (nextO T o) o (s .offsets) i l ∙ rw due)
+
+    pub time-waits : (i : ℕ) → i < n → replenishes o i ≡ false → (passTime n T B b o .b ! i ≡ b ! i) × (passTime n T B b o .o ! i ≡ o ! i - 1)
+    unfolding passTime nextB nextO
+    time-waits i l not-due = (passed (nextB B b o) b (s .budgets) i l ∙ rw not-due, passed (nextO T o) o (s .offsets) i l ∙ rw not-due)
 
     -- and the second
     pub time-in-range : StateInRange n T B (passTime n T B b o .b) (passTime n T B b o .o)

@@ -10,6 +10,7 @@ pub mod Numbers
 pub mod Arrivals
 pub mod BusyLength
 pub mod Admission
+pub mod StandingTest
 pub mod Candidates
 pub mod Weights
 pub mod Pick

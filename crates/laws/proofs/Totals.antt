@@ -1,6 +1,6 @@
 -- Sums over the numbers below n, and of a list.
 use Prim.Native.Nat.{ℕ, zero, suc, _+_, _≤_, _<_}
-use mathlib.Core.Path.{_≡_, refl, _∙_, ap, ap₂, sym}
+use mathlib.Core.Path.{_≡_, refl, _∙_, ap, ap₂, sym, subst}
 use mathlib.Core.List.{List, [], _∷_, _++_, map, map-append}
 use mathlib.Core.Logic.{⊎-elim}
 use mathlib.Core.Bool.{Bool, true, false, cond}
@@ -16,6 +16,21 @@ pub sum-mono : (n : ℕ) (f g : ℕ → ℕ) → ((j : ℕ) → j < n → f j �
 unfolding sumBelow
 sum-mono zero f g h = le-refl 0
 sum-mono (suc n) f g h = add-le-add (sum-mono n f g (λ j l. h j (le-step l))) (h n (lt-suc-self n))
+
+-- and one of them smaller: so is the sum
+pub sum-less : (n : ℕ) (f g : ℕ → ℕ) → ((j : ℕ) → j < n → f j ≤ g j) → (k : ℕ) → k < n → f k < g k → sumBelow n f < sumBelow n g
+unfolding sumBelow
+sum-less zero f g each k l less = absurd (omega arith)
+sum-less (suc n) f g each k l less = below-cases n k l last (λ m. before (sum-less n f g (λ j i. each j (le-step i)) k m less))
+  where
+    last : k ≡ n → sumBelow n f + f n < sumBelow n g + g n
+    last e =
+        let others = sum-mono n f g (λ j m. each j (le-step m)) in
+        let own : f n < g n = subst (λ (i : ℕ). f i < g i) e less in
+        omega arith
+
+    before : sumBelow n f < sumBelow n g → sumBelow n f + f n < sumBelow n g + g n
+    before others = let own = each n (lt-suc-self n) in omega arith
 
 pub sum-one-more : (n : ℕ) (f : ℕ → ℕ) → sumBelow (n + 1) f ≡ sumBelow n f + f n
 unfolding sumBelow

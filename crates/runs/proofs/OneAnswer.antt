@@ -44,10 +44,10 @@ taken e = cc
 refused-as : {A : Type 0} {x y : Refused} → _≡_ {A = Outcome A} (refused x) (refused y) → x ≡ y
 refused-as e = cc
 
-given-as : {A : Type 0} {x y : A} → gives x ≡ gives y → x ≡ y
+pub given-as : {A : Type 0} {x y : A} → gives x ≡ gives y → x ≡ y
 given-as e = cc
 
-never-both : {A C : Type 0} {x : A} {r : Refused} → gives x ≡ refused r → C
+pub never-both : {A C : Type 0} {x : A} {r : Refused} → gives x ≡ refused r → C
 never-both {A} {C} {x} {r} e = absurd (differ e)
   where
     said : Outcome A → ℕ

@@ -1,0 +1,1 @@
+// The guarantee: no code, only definitions in specs/ and theorems in proofs/.
