@@ -17,7 +17,7 @@ use Rattle.rules.specs.Run.{run}
 use Rattle.rules.specs.Refusals.{refusal}
 use Rattle.rules.specs.declared.Table.{Table}
 use Rattle.rules.specs.declared.Refusal.the-variants.{NotListed}
-use Rattle.guarantee.specs.Histories.{Event, tickTo, releaseOf}
+use Rattle.guarantee.specs.Histories.{tickTo, releaseOf}
 use Rattle.ranges.specs.Outcome.{unlessRefused}
 use Rattle.ranges.specs.Verdicts.{verdictAs}
 use Rattle.ranges.specs.declared.Verdict.the-variants as verdict
@@ -26,7 +26,6 @@ use Rattle.scheduler.specs.Promises.{change, FreshIs}
 use Rattle.scheduler.specs.declared.State.{State}
 use Rattle.scheduler.specs.declared.Changed.{Changed}
 use Rattle.runs.specs.Promises.{stepped as step, runs}
-use Rattle.runs.specs.declared.Stepped.{Stepped}
 use Rattle.calls.specs.Calls.{Call, decided, stepped, ran, ticked, released, Promised, leaves, events, AllPromised, leavesAfter, history}
 
 abbrev two : ℕ → ℕ → List ℕ

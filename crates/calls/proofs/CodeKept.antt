@@ -8,6 +8,7 @@ use Rattle.rules.specs.FreshStart.{freshStart}
 use Rattle.rules.specs.Refusals.{Refused, badTable, notAdmitted, refusal}
 use Rattle.rules.specs.declared.Table.{Table}
 use Rattle.laws.proofs.Tests.{none-is-some}
+use Rattle.laws.proofs.Refusals.{no-ground}
 use Rattle.laws.proofs.Admission.{admitted-exactly}
 use Rattle.guarantee.specs.Histories.{Event, tickTo, ToTheNext}
 use Rattle.guarantee.specs.Guarantee.{Guarantee}
@@ -21,7 +22,7 @@ use Rattle.scheduler.specs.declared.State.{State}
 use Rattle.scheduler.specs.declared.Changed.{Changed}
 use Rattle.calls.specs.Calls.{Call, AllPromised, leaves, events, leavesAfter, history}
 use Rattle.calls.specs.CodeKeeps.{Admits, ours, StandsIn, FollowsFrom, reached, Exactly, CodeKeeps, KeepsFirst, StandingCodeKeeps, FreshCodeKeeps}
-use Rattle.calls.proofs.Each.{Leads, nothing-happens, no-ground, call-happens}
+use Rattle.calls.proofs.Each.{Leads, nothing-happens, call-happens}
 
 module _ (t : Table) (admits : Admits t) where
   kept : Guarantee (t .count) (t .period) (t .budget) (t .phase)

@@ -10,6 +10,7 @@ use Rattle.rules.specs.Pick.{decision}
 use Rattle.rules.specs.Tick.{tick, tickAllowed}
 use Rattle.rules.specs.Refusals.{Refused, ground, noWord, notListed, unlessBefore, refusal}
 use Rattle.rules.specs.declared.Table.{Table}
+use Rattle.laws.proofs.Refusals.{no-ground}
 use Rattle.laws.proofs.Pick.{decision-allowed}
 use Rattle.ranges.specs.Outcome.{gives, unlessRefused}
 use Rattle.ranges.specs.declared.Verdict.the-variants as verdict
@@ -21,7 +22,6 @@ use Rattle.scheduler.specs.Promises.{Change, change}
 use Rattle.scheduler.specs.declared.State.{State}
 use Rattle.runs.proofs.OneAnswer.{given-as, never-both, verdict-injective}
 use Rattle.calls.specs.CodeKeeps.{DecidedTicks}
-use Rattle.calls.proofs.Each.{no-ground}
 
 -- a pick that is given is the answer, and nothing was refused
 given : (refused : Option Refused) (x y : ℕ) → gives x ≡ unlessRefused refused y → (refused ≡ none) × (x ≡ y)

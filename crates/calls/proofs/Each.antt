@@ -1,21 +1,21 @@
 -- Each call makes a history of the guarantee: of no event where it is refused.
 use Prim.Native.Nat.{ℕ}
 use mathlib.Core.Path.{_≡_, refl, sym, _∙_, ap}
-use mathlib.Core.Bool.{Bool, true, false}
+use mathlib.Core.Bool.{true}
 use mathlib.Core.List.{List, [], _∷_, map}
 use mathlib.Core.Option.{Option, some, none}
 use lib.ListN.{length, take, drop}
 use lib.Seq.{take-append-seam}
-use Rattle.basis.specs.Words.{has, unless}
+use Rattle.basis.specs.Words.{has}
 use Rattle.rules.specs.Numbers.{Pairs, TableInRange, StateInRange}
 use Rattle.rules.specs.Pick.{decision}
 use Rattle.rules.specs.Tick.{tick, tickAllowed}
 use Rattle.rules.specs.Release.{release, releaseAllowed}
 use Rattle.rules.specs.Run.{Ran, run}
-use Rattle.rules.specs.Refusals.{Refused, Ground, order, appliesTo, refusal}
+use Rattle.rules.specs.Refusals.{Refused}
 use Rattle.rules.specs.declared.Table.{Table}
-use Rattle.laws.proofs.Tests.{some-is-none, none-is-some}
-use Rattle.laws.proofs.Refusals.{none-applying}
+use Rattle.laws.proofs.Tests.{some-is-none, none-is-some, unless-none}
+use Rattle.laws.proofs.Refusals.{no-ground}
 use Rattle.laws.proofs.Keeps.{tick-in-range}
 use Rattle.laws.proofs.Pick.{decision-allowed}
 use Rattle.laws.proofs.Run.{run-length}
@@ -67,16 +67,6 @@ module _ (n : ℕ) (T B : List ℕ) where
         follows = allowed-all (scheduler n T B) s (tickTo pick) _ (decision-allowed n T B phase (s .b) (s .o) t here word) (rest .follows);
         to = rest .to;
       }
-
--- ---- a ground that does not apply
-unless-none : (a : Bool) (x : ℕ) → unless a x ≡ none → a ≡ true
-unless-none true x e = refl
-unless-none false x e = some-is-none e
-
--- where a call isn't refused, none of its grounds applies
-pub no-ground : (gs : List Ground) → refusal gs ≡ none → (k : ℕ) → has order k ≡ true → appliesTo gs k ≡ none
-unfolding refusal
-no-ground gs e k l = none-applying order gs e k l
 
 -- ---- over the code
 module _ (t : Table) (s : State) where

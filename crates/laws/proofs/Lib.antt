@@ -21,5 +21,3 @@ pub mod Keeps
 pub mod Run
 -- entries beyond the count are no part of a table
 pub mod Beyond
--- the premises can be met
-pub mod Example

@@ -12,7 +12,7 @@ use Rattle.laws.proofs.Tests.{or-cases, never, some-is-none, none-is-so
 use borrow.Author.Tests.{eqb-true}
 use Rattle.rules.specs.declared.Refusal.{Refusal}
 use Rattle.rules.specs.declared.Refusal.the-variants.{BadPartition, NotAdmitted, BadPair, NoWord, NotListed, NotActive, ShortBuffer, BadRecord, BadTask}
-use Rattle.rules.specs.Refusals.{Refused, refusedAs, Ground, appliesTo, unlessBefore, firstApplying, order}
+use Rattle.rules.specs.Refusals.{Refused, refusedAs, Ground, appliesTo, unlessBefore, firstApplying, order, refusal}
 
 -- the refusal with these two numbers
 named : Refused → Refusal
@@ -85,6 +85,11 @@ none-applying (j ∷ js) gs p k h = go (appliesTo gs j) refl p (none-applying js
         → (firstApplying js gs ≡ none → (i : ℕ) → has js i ≡ true → appliesTo gs i ≡ none) → appliesTo gs k ≡ none
     go (some i) e q next = some-is-none q
     go none e q next = ⊎-elim (λ s. ap (appliesTo gs) (eqb-true k j s) ∙ e) (next q k) (or-cases (eqb k j) _ h)
+
+-- so where a call isn't refused, none of its grounds applies
+pub no-ground : (gs : List Ground) → refusal gs ≡ none → (k : ℕ) → has order k ≡ true → appliesTo gs k ≡ none
+unfolding refusal
+no-ground gs e k l = none-applying order gs e k l
 
 -- the order has each of the nine once
 pub order-whole : (length order ≡ 9) × (those 10 (has order) ≡ 1 ∷ 2 ∷ 3 ∷ 4 ∷ 5 ∷ 6 ∷ 7 ∷ 8 ∷ 9 ∷ [])

@@ -7,7 +7,7 @@ use mathlib.Core.Option.{Option, some, none, Option·some-ne-none, Option·none-
 use native.Mathlib.Nat.{eq-or-lt-of-le, le-of-suc-le-suc}
 use borrow.Author.Tests.{leb-true, le-leb, ltb-true, ltb-false}
 use lib.Dec.{leb, ltb}
-use Rattle.basis.specs.Words.{within, found}
+use Rattle.basis.specs.Words.{within, unless, found}
 
 pub true-or-false : (a : Bool) → (a ≡ true) ⊎ (a ≡ false)
 true-or-false true = inl refl
@@ -73,3 +73,8 @@ some-is-none {x = x} e = absurd (Option·some-ne-none x e)
 
 pub none-is-some : {A X : Type 0} {x : X} → none ≡ some x → A
 none-is-some {x = x} e = absurd (Option·none-ne-some x e)
+
+-- a number that isn't there because the test passes
+pub unless-none : (a : Bool) (x : ℕ) → unless a x ≡ none → a ≡ true
+unless-none true x e = refl
+unless-none false x e = some-is-none e
