@@ -2,7 +2,6 @@
 use Prim.Native.Nat.{ℕ}
 use mathlib.Core.List.{List, [], _∷_}
 use mathlib.Core.Path.{_≡_, refl}
-use lib.ListN.{replicate}
 use Rattle.basis.specs.Words.{ceil, sumBelow, total, has, all, those, first, filled, settle}
 use Rattle.rules.specs.Numbers.{partitionInRange, firstBadPartition, pairInRange, firstBadPair}
 use Rattle.rules.specs.Admission.{demand, atRest, responseWithin, firstUnadmitted}
@@ -18,6 +17,7 @@ use Rattle.rules.specs.Refusals.{refusal}
 use Rattle.rules.specs.declared.Table.{Table}
 use Rattle.rules.specs.declared.Refusal.the-variants.{NotListed}
 use Rattle.guarantee.specs.Histories.{tickTo, releaseOf}
+use Rattle.guarantee.specs.Losses.{two}
 use Rattle.ranges.specs.Outcome.{unlessRefused}
 use Rattle.ranges.specs.Verdicts.{verdictAs}
 use Rattle.ranges.specs.declared.Verdict.the-variants as verdict
@@ -27,9 +27,6 @@ use Rattle.scheduler.specs.declared.State.{State}
 use Rattle.scheduler.specs.declared.Changed.{Changed}
 use Rattle.runs.specs.Promises.{stepped as step, runs}
 use Rattle.calls.specs.Calls.{Call, decided, stepped, ran, ticked, released, Promised, leaves, events, AllPromised, leavesAfter, history}
-
-abbrev two : ℕ → ℕ → List ℕ
-two x y = x ∷ y ∷ replicate 14 0
 
 -- 01's first table, (4,1) and (6,2)
 abbrev pub table : Table

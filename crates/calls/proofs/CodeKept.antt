@@ -1,28 +1,26 @@
 -- The code keeps the guarantee. The statements are in specs/CodeKeeps.antt.
 use mathlib.Core.Path.{_≡_, refl, sym, _∙_, ap, subst}
 use mathlib.Core.List.{List, [], _∷_, _++_, append-assoc}
-use mathlib.Core.Option.{Option, some, none}
+use mathlib.Core.Option.{none}
 use Rattle.basis.specs.Words.{has}
 use Rattle.rules.specs.Numbers.{Pairs}
 use Rattle.rules.specs.FreshStart.{freshStart}
-use Rattle.rules.specs.Refusals.{Refused, badTable, notAdmitted, refusal}
+use Rattle.rules.specs.Refusals.{badTable, notAdmitted, refusal}
 use Rattle.rules.specs.declared.Table.{Table}
-use Rattle.laws.proofs.Tests.{none-is-some}
 use Rattle.laws.proofs.Refusals.{no-ground}
 use Rattle.laws.proofs.Admission.{admitted-exactly}
 use Rattle.guarantee.specs.Histories.{Event, tickTo, ToTheNext}
 use Rattle.guarantee.specs.Guarantee.{Guarantee}
 use Rattle.guarantee.proofs.Histories.{after-append, allowed-before, allowed-both}
 use Rattle.guarantee.proofs.Guaranteed.{guaranteed}
-use Rattle.ranges.specs.Verdicts.{verdictAs}
 use Rattle.ranges.specs.declared.Verdict.the-variants as verdict
 use Rattle.scheduler.specs.States.{pairs}
-use Rattle.scheduler.specs.Promises.{Change, change, changedAs, FreshIs}
+use Rattle.scheduler.specs.Promises.{FreshIs}
 use Rattle.scheduler.specs.declared.State.{State}
 use Rattle.scheduler.specs.declared.Changed.{Changed}
 use Rattle.calls.specs.Calls.{Call, AllPromised, leaves, events, leavesAfter, history}
 use Rattle.calls.specs.CodeKeeps.{Admits, ours, StandsIn, FollowsFrom, reached, Exactly, CodeKeeps, KeepsFirst, StandingCodeKeeps, FreshCodeKeeps}
-use Rattle.calls.proofs.Each.{Leads, nothing-happens, call-happens}
+use Rattle.calls.proofs.Each.{Leads, nothing-happens, change-made, call-happens}
 
 module _ (t : Table) (admits : Admits t) where
   kept : Guarantee (t .count) (t .period) (t .budget) (t .phase)
@@ -65,14 +63,9 @@ standing-code-keeps t s calls admits here p = keeps t admits s calls here p
 
 -- ---- a fresh start that isn't refused
 module _ (t : Table) (old : State) (r : Changed) (fresh : FreshIs t old r) (good : r .verdict ≡ verdict.Good) where
-  made : (refused : Option Refused) (end : Pairs) → changedAs r ≡ change refused (pairs old) end → (refused ≡ none) × (pairs (r .state) ≡ end)
-  unfolding change verdictAs
-  made none end e = (refl, ap (λ (x : Change). x .after) e)
-  made (some why) end e = none-is-some (sym (ap verdictAs good) ∙ ap (λ (x : Change). x .refused) e)
-
   started : (refusal (badTable (t .count) (t .period) (t .budget) (t .phase) ∷ notAdmitted (t .count) (t .period) (t .budget) ∷ []) ≡ none)
       × (pairs (r .state) ≡ freshStart (t .count) (t .period) (t .budget) (t .phase))
-  started = made _ _ fresh
+  started = change-made r _ (pairs old) _ fresh good
 
   admits : Admits t
   unfolding has

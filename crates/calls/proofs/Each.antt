@@ -13,6 +13,7 @@ use Rattle.rules.specs.Tick.{tick, tickAllowed}
 use Rattle.rules.specs.Release.{release, releaseAllowed}
 use Rattle.rules.specs.Run.{Ran, run}
 use Rattle.rules.specs.Refusals.{Refused}
+use Rattle.rules.specs.declared.Refusal.{Refusal}
 use Rattle.rules.specs.declared.Table.{Table}
 use Rattle.laws.proofs.Tests.{some-is-none, none-is-some, unless-none}
 use Rattle.laws.proofs.Refusals.{no-ground}
@@ -35,7 +36,7 @@ use Rattle.scheduler.specs.declared.Changed.{Changed}
 use Rattle.runs.specs.Promises.{Step, steppedAs, stepped as step, Runs, runs, ranAs}
 use Rattle.runs.specs.declared.Stepped.{Stepped}
 use Rattle.runs.proofs.OneAnswer.{given-as, never-both}
-use Rattle.calls.specs.Calls.{Call, decided, stepped, ran, ticked, released, Promised, leaves, unlessRefused, picked, events}
+use Rattle.calls.specs.Calls.{Call, decided, stepped, ran, ticked, released, Promised, leaves, ifMade, picked, events}
 
 -- ---- over the rules: one event, and a run
 module _ (n : ℕ) (T B : List ℕ) where
@@ -69,6 +70,19 @@ module _ (n : ℕ) (T B : List ℕ) where
       }
 
 -- ---- over the code
+-- a change that is made, and one that is refused
+pub change-made : (r : Changed) (refused : Option Refused) (before end : Pairs) → changedAs r ≡ change refused before end → r .verdict ≡ verdict.Good
+    → (refused ≡ none) × (pairs (r .state) ≡ end)
+unfolding change verdictAs
+change-made r none before end e good = (refl, ap (λ (x : Change). x .after) e)
+change-made r (some why) before end e good = none-is-some (sym (ap verdictAs good) ∙ ap (λ (x : Change). x .refused) e)
+
+change-kept : (r : Changed) (refused : Option Refused) (before end : Pairs) → changedAs r ≡ change refused before end → (q : Refusal) → r .verdict ≡ verdict.Refused q
+    → pairs (r .state) ≡ before
+unfolding change verdictAs
+change-kept r none before end e q bad = none-is-some (sym (ap (λ (x : Change). x .refused) e) ∙ ap verdictAs bad)
+change-kept r (some why) before end e q bad = ap (λ (x : Change). x .after) e
+
 module _ (t : Table) (s : State) where
   abbrev Happens : List Event → State → Type 0
   Happens happened end = Leads (t .count) (t .period) (t .budget) (pairs s) happened (pairs end)
@@ -81,20 +95,15 @@ module _ (t : Table) (s : State) where
   -- a change that is refused leaves all as it was; one that is made is what the rule says
   changes : (r : Changed) (refused : Option Refused) (end : Pairs) (made : List Event) → changedAs r ≡ change refused (pairs s) end
       → (refused ≡ none → Leads (t .count) (t .period) (t .budget) (pairs s) made end)
-      → Happens (unlessRefused (r .verdict) made) (r .state)
-  unfolding change verdictAs
-  changes r none end made e leads = go (r .verdict) refl
+      → Happens (ifMade (r .verdict) made) (r .state)
+  changes r refused end made e leads = go (r .verdict) refl
     where
-      go : (v : Verdict) → r .verdict ≡ v → Happens (unlessRefused v made) (r .state)
+      go : (v : Verdict) → r .verdict ≡ v → Happens (ifMade v made) (r .state)
       go verdict.Good d =
-          let whole = leads refl in
-          record { follows = whole .follows; to = whole .to ∙ sym (ap (λ (x : Change). x .after) e) }
-      go (verdict.Refused q) d = none-is-some (sym (ap (λ (x : Change). x .refused) e) ∙ ap verdictAs d)
-  changes r (some why) end made e leads = go (r .verdict) refl
-    where
-      go : (v : Verdict) → r .verdict ≡ v → Happens (unlessRefused v made) (r .state)
-      go verdict.Good d = none-is-some (sym (ap verdictAs d) ∙ ap (λ (x : Change). x .refused) e)
-      go (verdict.Refused q) d = stays (r .state) (ap (λ (x : Change). x .after) e)
+          let done = change-made r refused (pairs s) end e d in
+          let whole = leads (done .0) in
+          record { follows = whole .follows; to = whole .to ∙ sym (done .1) }
+      go (verdict.Refused q) d = stays (r .state) (change-kept r refused (pairs s) end e q d)
 
   -- a step is a change beside a pick
   steps : (r : Stepped) (refused : Option Refused) (end : Pairs) (pick : ℕ) → steppedAs r ≡ step refused (pairs s) end pick

@@ -40,9 +40,9 @@ leaves s (ticked pick r) = r .state
 leaves s (released i r) = r .state
 
 -- the events of a call, unless it was refused
-abbrev pub unlessRefused : Verdict → List Event → List Event
-unlessRefused verdict.Good made = made
-unlessRefused (verdict.Refused r) made = []
+abbrev pub ifMade : Verdict → List Event → List Event
+ifMade verdict.Good made = made
+ifMade (verdict.Refused r) made = []
 
 abbrev pub picked : Decision → List Event
 picked (decision.Pick pick) = tickTo pick ∷ []
@@ -52,9 +52,9 @@ picked (decision.Refused r) = []
 unfoldable pub events : Call → List Event
 events (decided words r) = []
 events (stepped word r) = picked (r .decision)
-events (ran words buffer r last) = unlessRefused (r .verdict) (map tickTo (take (length words) last))
-events (ticked pick r) = unlessRefused (r .verdict) (tickTo pick ∷ [])
-events (released i r) = unlessRefused (r .verdict) (releaseOf i ∷ [])
+events (ran words buffer r last) = ifMade (r .verdict) (map tickTo (take (length words) last))
+events (ticked pick r) = ifMade (r .verdict) (tickTo pick ∷ [])
+events (released i r) = ifMade (r .verdict) (releaseOf i ∷ [])
 
 -- ---- one call after another
 -- each is from the state that the one before left, and gives what its function promises

@@ -5,10 +5,10 @@ use mathlib.Core.List.{List, _∷_, _++_}
 use mathlib.Core.Path.{_≡_}
 use Rattle.basis.specs.Words.{_!_}
 use Rattle.rules.specs.Numbers.{Pairs, StateInRange}
-use Rattle.rules.specs.Tick.{spend, replenishes}
+use Rattle.rules.specs.Tick.{replenishes}
 use Rattle.rules.specs.declared.Table.{Table}
 use Rattle.guarantee.specs.Histories.{Event, tickTo, Scheduler, scheduler, EndsReplenished, ToTheNext}
-use Rattle.guarantee.specs.Guarantee.{AdmittedTable, StandingState, Follows, stateAfter, AddsUp}
+use Rattle.guarantee.specs.Guarantee.{NothingLeft, AdmittedTable, StandingState, Follows, stateAfter, AddsUp}
 use Rattle.ranges.specs.declared.Verdict.the-variants as verdict
 use Rattle.draw.specs.Promises.{DecideIs}
 use Rattle.draw.specs.declared.Decision.the-variants as decision
@@ -49,7 +49,7 @@ module _ (t : Table) (s : State) (calls : List Call) where
     -- "at each replenishment of a program nothing is left of its old budget,"
     pub nothing-left : (before rest : List Event) (pick h : ℕ) → history calls ≡ before ++ tickTo pick ∷ rest → h < t .count
         → replenishes (reached t (pairs s) before .o) h ≡ true
-        → spend (reached t (pairs s) before .b) pick ! h ≡ 0
+        → NothingLeft (reached t (pairs s) before) pick h
     -- "and over each whole period from one replenishment to the next the ticks it ran and the ticks it gave up add up to exactly its budget."
     pub whole-period : (before period rest : List Event) (h : ℕ) → history calls ≡ before ++ period ++ rest → h < t .count
         → EndsReplenished (ours t) h (pairs s) before

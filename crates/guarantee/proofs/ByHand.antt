@@ -13,12 +13,12 @@ use Rattle.rules.specs.Tick.{spend, replenishes, nextB, nextO, passTime, tick}
 use Rattle.rules.specs.Release.{release, releaseAllowed}
 use Rattle.rules.specs.Sums.{T₁, B₁}
 use Rattle.laws.proofs.Admission.{admitted-exactly}
-use Rattle.guarantee.specs.Histories.{Event, tickTo, releaseOf, Scheduler, allowed, next, allAllowed, after, counted, endsWith, replenishment, runs, givesUp, ticksRun, ticksGivenUp, replenishments, ToTheNext}
-use Rattle.guarantee.specs.Guarantee.{ours, Follows, AddsUp, AdmittedTable}
+use Rattle.guarantee.specs.Histories.{Event, tickTo, releaseOf, Scheduler, scheduler, allowed, next, allAllowed, after, counted, endsWith, replenishment, runs, givesUp, ticksRun, ticksGivenUp, replenishments, ToTheNext}
+use Rattle.guarantee.specs.Guarantee.{NothingLeft, Follows, AddsUp, AdmittedTable}
 
 -- 01's first table, (4,1) and (6,2), from its fresh start: the first period of partition 1, in which it runs a tick and gives one up
 abbrev scheduler₁ : Scheduler
-scheduler₁ = ours 2 T₁ B₁
+scheduler₁ = scheduler 2 T₁ B₁
 
 abbrev pub start : Pairs
 start = freshStart 2 T₁ B₁ []
@@ -65,7 +65,7 @@ shown-hold = refl
 pub record Met : Type 0 where
   pub table : AdmittedTable 2 T₁ B₁ []
   pub follows : Follows 2 T₁ B₁ start period
-  pub whole : ToTheNext (ours 2 T₁ B₁) 1 start period
+  pub whole : ToTheNext (scheduler 2 T₁ B₁) 1 start period
 
 pub met : Met
 unfolding partitionInRange firstBadPartition demand atRest responseWithin firstUnadmitted ceil sumBelow has all those filled settle first freshB freshO freshStart arrivals active busyStart refill busySum deadline busyTest passes mayRun members idleListed candidates spend replenishes nextB nextO passTime tick release releaseAllowed allowed next allAllowed after counted endsWith replenishment runs givesUp
@@ -80,3 +80,8 @@ met =
 pub shown-adds-up : AddsUp 2 T₁ B₁ 1 start period
 unfolding ceil sumBelow has all those filled settle first freshB freshO freshStart arrivals active busyStart refill busySum deadline busyTest passes mayRun members idleListed candidates spend replenishes nextB nextO passTime tick release releaseAllowed allowed next allAllowed after counted endsWith replenishment runs givesUp
 shown-adds-up = refl
+
+-- at tick 3 partition 0 has a tick left and is replenished: it runs that tick, and nothing is left
+pub shown-nothing-left : NothingLeft tick3 0 0
+unfolding spend
+shown-nothing-left = refl

@@ -16,6 +16,7 @@ use Rattle.rules.specs.BusyLength.{passes}
 use Rattle.rules.specs.Tick.{spend, replenishes, passTime, tick, tickAllowed}
 use Rattle.rules.specs.Release.{release}
 use Rattle.laws.proofs.Tests.{never}
+use Rattle.laws.proofs.Tick.{spend-own, spend-other}
 use Rattle.laws.proofs.Numbers.{GoodTable, table-good}
 use Rattle.laws.proofs.Keeps.{tick-in-range, spend-in-range, release-in-range, time-renews, time-waits}
 use Rattle.laws.proofs.BusyLength.{active-some}
@@ -23,7 +24,7 @@ use Rattle.laws.proofs.StandingTest.{stands-exactly}
 use Rattle.laws.proofs.Candidates.{candidate-active}
 use Rattle.guarantee.specs.Histories.{Event, tickTo, releaseOf, scheduler, allowed, next, replenishment, runs, givesUp}
 use Rattle.guarantee.specs.Guarantee.{AdmittedTable, StandingState}
-use Rattle.guarantee.proofs.Spending.{spend-own, spend-other, spent-passes, release-stands}
+use Rattle.guarantee.proofs.Spending.{spent-passes, release-stands}
 use Rattle.guarantee.proofs.Passing.{none-left, time-passes}
 
 module _ (n : ℕ) (T B phase : List ℕ) (admitted : AdmittedTable n T B phase) (s : Pairs) (here : StandingState n T B s) where

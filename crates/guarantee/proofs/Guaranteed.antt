@@ -12,13 +12,13 @@ use Rattle.basis.specs.Words.{_!_}
 use Rattle.rules.specs.Numbers.{Pairs}
 use Rattle.rules.specs.BusyLength.{active}
 use Rattle.rules.specs.FreshStart.{freshStart}
-use Rattle.rules.specs.Tick.{spend, replenishes}
+use Rattle.rules.specs.Tick.{replenishes}
 use Rattle.laws.proofs.Tests.{never, true-or-false}
 use Rattle.laws.proofs.Keeps.{fresh-in-range, fresh-whole, fresh-empty}
 use Rattle.laws.proofs.BusyLength.{inactive-empty, passes-spare}
 use Rattle.laws.proofs.StandingTest.{stands-exactly}
 use Rattle.guarantee.specs.Histories.{Event, tickTo, scheduler, allowed, next, after, counted, endsWith, replenishment, ticksRun, ticksGivenUp, replenishments, EndsReplenished, ToTheNext}
-use Rattle.guarantee.specs.Guarantee.{AdmittedTable, StandingState, Follows, stateAfter, AddsUp, Guaranteed}
+use Rattle.guarantee.specs.Guarantee.{NothingLeft, AdmittedTable, StandingState, Follows, stateAfter, AddsUp, Guaranteed}
 use Rattle.guarantee.proofs.CriticalInstant.{EmptyOrWhole, critical-instant}
 use Rattle.guarantee.proofs.Events.{event-stands, left-at, balance, whole-after}
 use Rattle.guarantee.proofs.Histories.{allowed-first, allowed-later, allowed-before, allowed-rest}
@@ -42,7 +42,7 @@ module _ (n : ℕ) (T B phase : List ℕ) (table : AdmittedTable n T B phase) wh
 
   -- (b)
   left : (s : Pairs) (history : List Event) (pick h : ℕ) → StandingState n T B s → Follows n T B s (history ++ tickTo pick ∷ []) → h < n
-      → replenishes (stateAfter n T B s history .o) h ≡ true → spend (stateAfter n T B s history .b) pick ! h ≡ 0
+      → replenishes (stateAfter n T B s history .o) h ≡ true → NothingLeft (stateAfter n T B s history) pick h
   left s history pick h here p l =
       let now : Pairs = stateAfter n T B s history in
       let last : Follows n T B now (tickTo pick ∷ []) = allowed-rest (scheduler n T B) s history (tickTo pick ∷ []) p in

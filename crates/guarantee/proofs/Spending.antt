@@ -1,15 +1,13 @@
 -- The first half of a tick: once a member of the list has lost its tick, everybody passes with one tick more than that. And a release.
 use Prim.Native.Nat.{ℕ, suc, _-_, _≤_, _<_}
-use mathlib.Core.Path.{_≡_, refl, _∙_, sym}
-use mathlib.Core.Bool.{Bool, true, false, cond}
+use mathlib.Core.Path.{_≡_, _∙_, sym}
+use mathlib.Core.Bool.{true}
 use mathlib.Core.List.{List}
 use mathlib.Core.Logic.{_⊎_, ⊎-elim}
 use native.Mathlib.Nat.{le-refl}
 use native.Mathlib.Omega.{arith}
-use borrow.Author.Tests.{ne-eqb}
-use lib.Dec.{eqb}
-use lib.ListN.{length, set}
-use lib.Seq.{getD-set-same, getD-set-other}
+use lib.ListN.{set}
+use lib.Seq.{getD-set-same}
 use Rattle.basis.specs.Words.{_!_, sumBelow}
 use Rattle.rules.specs.Numbers.{TableInRange, StateInRange}
 use Rattle.rules.specs.BusyLength.{busyStart, passes}
@@ -21,30 +19,11 @@ use Rattle.laws.proofs.Tests.{below-or-not}
 use Rattle.laws.proofs.Places.{all-true}
 use Rattle.laws.proofs.Totals.{sum-mono, sum-less}
 use Rattle.laws.proofs.Filled.{set-lower}
+use Rattle.laws.proofs.Tick.{idle-spends, spends}
 use Rattle.laws.proofs.Numbers.{GoodTable, table-good, GoodState, state-good}
 use Rattle.laws.proofs.BusyLength.{active-some, passes-lower}
 use Rattle.laws.proofs.StandingTest.{stands-exactly}
 use Rattle.laws.proofs.Candidates.{Listed, candidate-cases, tests-decide}
-
--- ---- what a pick's tick leaves
-idle-spends : (b : List ℕ) → spend b idle ≡ b
-unfolding spend
-idle-spends b = refl
-
-spends : (b : List ℕ) (pick : ℕ) → pick < idle → spend b pick ≡ set b pick (b ! pick - 1)
-unfolding spend
-spends b pick l = rw (ne-eqb pick idle (λ e. omega arith))
-
-pub spend-own : (b : List ℕ) (pick : ℕ) → pick < idle → pick < length b → spend b pick ! pick ≡ b ! pick - 1
-spend-own b pick few l = rw (spends b pick few) (getD-set-same b pick (b ! pick - 1) 0 l)
-
-pub spend-other : (b : List ℕ) (pick h : ℕ) → ¬ (h ≡ pick) → spend b pick ! h ≡ b ! h
-unfolding spend
-spend-other b pick h other = go (eqb pick idle)
-  where
-    go : (a : Bool) → cond a b (set b pick (b ! pick - 1)) ! h ≡ b ! h
-    go true = refl
-    go false = getD-set-other b pick h (b ! pick - 1) 0 other
 
 -- ---- fewer ticks waiting
 module _ (b c : List ℕ) (h : ℕ) (lower : (j : ℕ) → c ! j ≤ b ! j) where

@@ -11,9 +11,13 @@ use Rattle.rules.specs.FreshStart.{freshStart}
 use Rattle.rules.specs.Tick.{spend, replenishes}
 use Rattle.guarantee.specs.Histories.{Event, tickTo, Scheduler, scheduler, allAllowed, after, ticksRun, ticksGivenUp, EndsReplenished, ToTheNext}
 
+-- "nothing is left of its old budget": nothing once the pick has lost its tick, just before b becomes B
+abbrev pub NothingLeft : Pairs → ℕ → ℕ → Type 0
+NothingLeft s pick h = spend (s .b) pick ! h ≡ 0
+
 module _ (n : ℕ) (T B : List ℕ) where
   -- 01's scheduler over this table, "that stays fixed"
-  abbrev pub ours : Scheduler
+  abbrev ours : Scheduler
   ours = scheduler n T B
 
   -- "any state that passes the standing test": one that 01 would take, and that stands
@@ -43,10 +47,10 @@ module _ (n : ℕ) (T B : List ℕ) where
     pub record Guarantee : Type 0 where
       -- (a) the standing test holds after every event: a history may end with any
       pub keeps-standing : (s : Pairs) (history : List Event) → StandingState s → Follows s history → StandingState (stateAfter s history)
-      -- (b) "Then at each replenishment of a program nothing is left of its old budget,": nothing once the pick has lost its tick, just before b becomes B
+      -- (b) "Then at each replenishment of a program nothing is left of its old budget,"
       pub nothing-left : (s : Pairs) (history : List Event) (pick h : ℕ) → StandingState s → Follows s (history ++ tickTo pick ∷ []) → h < n
           → replenishes (stateAfter s history .o) h ≡ true
-          → spend (stateAfter s history .b) pick ! h ≡ 0
+          → NothingLeft (stateAfter s history) pick h
       -- (c) "and over each whole period from one replenishment to the next the ticks it ran and the ticks it gave up add up to exactly its budget."
       pub whole-period : (s : Pairs) (before period : List Event) (h : ℕ) → StandingState s → Follows s (before ++ period) → h < n
           → EndsReplenished ours h s before

@@ -14,6 +14,7 @@ pub mod StandingTest
 pub mod Candidates
 pub mod Weights
 pub mod Pick
+pub mod Tick
 pub mod Refusals
 -- a fresh start, a tick and a release give states in range
 pub mod Keeps

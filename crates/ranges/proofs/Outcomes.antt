@@ -1,16 +1,16 @@
 -- From a verdict to what a call says.
 use Prim.Native.Nat.{ℕ, _≤_, _<_}
 use mathlib.Core.Path.{_≡_, refl, sym, _∙_, ap}
-use mathlib.Core.Bool.{Bool, true, false}
 use mathlib.Core.List.{List, [], _∷_}
 use mathlib.Core.Option.{Option, some, none}
 use borrow.Author.Tests.{ltb-true}
 use lib.Dec.{ltb}
-use Rattle.basis.specs.Words.{orElse, unless}
+use Rattle.basis.specs.Words.{has, orElse, unless}
 use Rattle.rules.specs.Numbers.{firstBadPartition, TableInRange, firstBadPair}
 use Rattle.rules.specs.Refusals.{Refused, refusedAs, Ground, ground, badTable, badTableOrIndex, badState, refusal, unlessBefore}
 use Rattle.rules.specs.declared.Refusal.{Refusal}
-use Rattle.laws.proofs.Tests.{some-is-none}
+use Rattle.laws.proofs.Tests.{some-is-none, unless-none}
+use Rattle.laws.proofs.Refusals.{no-ground}
 use Rattle.laws.proofs.Numbers.{table-good}
 use Rattle.ranges.specs.Outcome.{Outcome, refused, gives, unlessRefused}
 use Rattle.ranges.specs.Verdicts.{verdictAs}
@@ -59,18 +59,14 @@ module _ (x y z : Option ℕ) {k : ℕ} (late : Late k) (v : Verdict) (e : verdi
     pub not-at-all : z ≡ none → refusal (ground 1 x ∷ ground 3 y ∷ ground k z ∷ []) ≡ none
     not-at-all f = third-after x y z late (sym e ∙ verdict-good v d) ∙ ap (λ (u : Option ℕ). unlessBefore k u none) f
 
-pub none-before : (number : ℕ) (x : Option ℕ) (later : Option Refused) → unlessBefore number x later ≡ none → x ≡ none
-none-before number (some second) later e = some-is-none e
-none-before number none later e = refl
-
 pub few-partitions : (n : ℕ) (T B phase : List ℕ) → TableInRange n T B phase → n ≤ 16
 few-partitions n T B phase t = table-good n T B phase t .not-many
 
 -- what a good verdict says
 module _ (n : ℕ) (T B phase : List ℕ) where
   pub table-in-range : (v : Verdict) → verdictAs v ≡ refusal (badTable n T B phase ∷ []) → v ≡ verdict.Good → TableInRange n T B phase
-  unfolding refusal
-  table-in-range v e d = none-before 1 _ none (sym e ∙ verdict-good v d)
+  unfolding has
+  table-in-range v e d = no-ground _ (sym e ∙ verdict-good v d) 1 refl
 
   pub few-of-table : (v : Verdict) → verdictAs v ≡ refusal (badTable n T B phase ∷ []) → v ≡ verdict.Good → n ≤ 16
   few-of-table v e d = few-partitions n T B phase (table-in-range v e d)
@@ -81,31 +77,23 @@ module _ (n : ℕ) (T B phase : List ℕ) where
     neither (some i) a p = some-is-none p
 
     both-good : (firstBadPartition n T B phase ≡ none) × (unless (ltb h n) h ≡ none)
-    unfolding refusal
-    both-good = neither _ _ (none-before 1 _ none (sym e ∙ verdict-good v d))
+    unfolding has
+    both-good = neither _ _ (no-ground _ (sym e ∙ verdict-good v d) 1 refl)
 
     pub indexed-table : TableInRange n T B phase
     indexed-table = both-good .0
 
     pub indexed-there : h < n
-    indexed-there = ltb-true h n (go (ltb h n) (both-good .1))
-      where
-        go : (a : Bool) → unless a h ≡ none → a ≡ true
-        go true p = refl
-        go false p = some-is-none p
+    indexed-there = ltb-true h n (unless-none (ltb h n) h (both-good .1))
 
   module _ (b o : List ℕ) where
     pub judged-table-good : (v : Verdict) → verdictAs v ≡ refusal (badTable n T B phase ∷ badState n T B b o ∷ []) → v ≡ verdict.Good → TableInRange n T B phase
-    unfolding refusal
-    judged-table-good v e d = none-before 1 _ _ (sym e ∙ verdict-good v d)
+    unfolding has
+    judged-table-good v e d = no-ground _ (sym e ∙ verdict-good v d) 1 refl
 
     pub judged-state-good : (v : Verdict) → verdictAs v ≡ refusal (badTable n T B phase ∷ badState n T B b o ∷ []) → v ≡ verdict.Good → firstBadPair n T B b o ≡ none
-    unfolding refusal
-    judged-state-good v e d = none-before 3 _ none (later (firstBadPartition n T B phase) (judged-table-good v e d) (sym e ∙ verdict-good v d))
-      where
-        later : (x : Option ℕ) → x ≡ none → unlessBefore 1 x (unlessBefore 3 (firstBadPair n T B b o) none) ≡ none → unlessBefore 3 (firstBadPair n T B b o) none ≡ none
-        later none p q = q
-        later (some i) p q = some-is-none p
+    unfolding has
+    judged-state-good v e d = no-ground _ (sym e ∙ verdict-good v d) 3 refl
 
     pub few-of-state : (v : Verdict) → verdictAs v ≡ refusal (badTable n T B phase ∷ badState n T B b o ∷ []) → v ≡ verdict.Good → n ≤ 16
     few-of-state v e d = few-partitions n T B phase (judged-table-good v e d)

@@ -43,15 +43,6 @@ module _ (x y : Option ℕ) where
   unfolding refusal
   then-state e = nothing-before 1 _ x e
 
-  pub neither : refusal (ground 1 x ∷ ground 3 y ∷ []) ≡ none → (x ≡ none) × (y ≡ none)
-  unfolding refusal
-  neither e = go x y e
-    where
-      go : (x y : Option ℕ) → unlessBefore 1 x (unlessBefore 3 y none) ≡ none → (x ≡ none) × (y ≡ none)
-      go none none p = (refl, refl)
-      go none (some j) p = some-is-none p
-      go (some i) y p = some-is-none p
-
   pub judged-table : (v : Verdict) (r : Refusal) → verdictAs v ≡ refusal (ground 1 x ∷ []) → v ≡ verdict.Refused r
       → verdictAs (verdict.Refused r) ≡ refusal (ground 1 x ∷ ground 3 y ∷ [])
   judged-table v r e d = verdict-refused (verdict.Refused r) r refl ∙ sym (table-first (refusedAs r) (sym e ∙ verdict-refused v r d))

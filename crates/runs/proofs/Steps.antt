@@ -1,21 +1,22 @@
 -- A step is a decision and then its tick: what `step` gives is what `decide` over its one word and `tick` for that pick give.
 use Prim.Native.Nat.{ℕ}
 use mathlib.Core.Path.{_≡_, refl, sym, _∙_, ap}
-use mathlib.Core.Bool.{Bool, true}
+use mathlib.Core.Bool.{Bool}
 use mathlib.Core.List.{[], _∷_}
 use mathlib.Core.Option.{Option, some, none}
 use lib.ListN.{length}
-use Rattle.basis.specs.Words.{unless}
-use Rattle.rules.specs.Numbers.{Pairs, firstBadPartition, firstBadPair}
+use Rattle.basis.specs.Words.{has, unless}
+use Rattle.rules.specs.Numbers.{Pairs, TableInRange, StateInRange}
 use Rattle.rules.specs.Pick.{decision}
-use Rattle.rules.specs.Tick.{tick, tickAllowed}
+use Rattle.rules.specs.Tick.{tick}
 use Rattle.rules.specs.Refusals.{Refused, ground, notListed, refusal}
 use Rattle.rules.specs.declared.Table.{Table}
+use Rattle.laws.proofs.Refusals.{no-ground}
 use Rattle.laws.proofs.Pick.{decision-allowed}
 use Rattle.ranges.specs.Outcome.{refused, unlessRefused}
 use Rattle.ranges.specs.Verdicts.{verdictAs}
 use Rattle.ranges.specs.declared.Verdict.the-variants as verdict
-use Rattle.ranges.proofs.Verdicts.{Late, four, five, first-two, third-after, neither}
+use Rattle.ranges.proofs.Verdicts.{Late, four, first-two, third-after}
 use Rattle.draw.specs.Promises.{DecideIs}
 use Rattle.draw.specs.declared.Decision.{Decision}
 use Rattle.scheduler.specs.States.{pairs}
@@ -33,6 +34,15 @@ no-third x y {k} late = go (refusal (ground 1 x ∷ ground 3 y ∷ [])) refl
     go : (r : Option Refused) → refusal (ground 1 x ∷ ground 3 y ∷ []) ≡ r → refusal (ground 1 x ∷ ground 3 y ∷ ground k none ∷ []) ≡ r
     go none e = third-after x y none late e
     go (some r) e = first-two x y none late r e
+
+-- a tick for what a word picks is not refused
+pub decision-ticks : (t : Table) (s : State) (word : ℕ) → TableInRange (t .count) (t .period) (t .budget) (t .phase) → StateInRange (t .count) (t .period) (t .budget) (s .b) (s .o)
+    → refusal (table t s ∷ state t s ∷ notListed (t .count) (t .period) (t .budget) (s .b) (s .o) (decision (t .count) (t .period) (t .budget) (s .b) (s .o) word) ∷ []) ≡ none
+unfolding refusal
+decision-ticks t s word good here =
+    ap (λ (a : Bool). refusal (table t s ∷ state t s ∷ ground 5 (unless a (decision (t .count) (t .period) (t .budget) (s .b) (s .o) word)) ∷ []))
+    (decision-allowed (t .count) (t .period) (t .budget) (t .phase) (s .b) (s .o) good here word)
+    ∙ rw (good, here .pairs)
 
 module _ (t : Table) (s : State) (word : ℕ) (r : Stepped) (made : StepIs t s word r) where
   abbrev picked : ℕ
@@ -54,17 +64,9 @@ module _ (t : Table) (s : State) (word : ℕ) (r : Stepped) (made : StepIs t s w
 
   -- where it isn't refused, the tick for its pick isn't either, and gives the same state
   module _ (bs : length (s .b) ≡ 16) (os : length (s .o) ≡ 16) (fine : refusal (table t s ∷ state t s ∷ []) ≡ none) where
-    fine-both : (firstBadPartition (t .count) (t .period) (t .budget) (t .phase) ≡ none) × (firstBadPair (t .count) (t .period) (t .budget) (s .b) (s .o) ≡ none)
-    fine-both = neither _ _ fine
-
-    allowed : tickAllowed (t .count) (t .period) (t .budget) (s .b) (s .o) picked ≡ true
-    allowed =
-        decision-allowed (t .count) (t .period) (t .budget) (t .phase) (s .b) (s .o) (fine-both .0)
-        (record { budgets = bs; offsets = os; pairs = fine-both .1 }) word
-
     ticks : refusal (table t s ∷ state t s ∷ notListed (t .count) (t .period) (t .budget) (s .b) (s .o) picked ∷ []) ≡ none
-    ticks =
-        ap (λ (a : Bool). refusal (table t s ∷ state t s ∷ ground 5 (unless a picked) ∷ [])) allowed ∙ no-third _ _ five ∙ fine
+    unfolding has
+    ticks = decision-ticks t s word (no-ground _ fine 1 refl) (record { budgets = bs; offsets = os; pairs = no-ground _ fine 3 refl })
 
     after-tick : (x : Option Refused) → x ≡ none → change x (pairs s) next ≡ record { after = next; refused = none }
     unfolding change

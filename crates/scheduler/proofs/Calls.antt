@@ -19,10 +19,11 @@ use Rattle.rules.specs.Refusals.{Refused, refusedAs, Ground, badTable, notAdmit
 use Rattle.rules.specs.declared.Refusal.{Refusal}
 use Rattle.rules.specs.declared.Refusal.the-variants.{NotAdmitted, NotListed, NotActive}
 use Rattle.rules.specs.declared.Table.{Table}
+use Rattle.laws.proofs.Refusals.{no-ground}
 use Rattle.ranges.specs.declared.Verdict.{Verdict}
 use Rattle.ranges.specs.declared.Verdict.the-variants as verdict
 use Rattle.ranges.proofs.Verdicts.{refused-before, nothing-before, five, six}
-use Rattle.ranges.proofs.Outcomes.{refused-early, refused-late, not-at-all, few-of-state, was-refused, was-given, few-partitions, none-before}
+use Rattle.ranges.proofs.Outcomes.{refused-early, refused-late, not-at-all, few-of-state, was-refused, was-given, few-partitions}
 use Rattle.standing.specs.Answers.{testAs}
 use Rattle.standing.specs.Promises.{AdmissionIs}
 use Rattle.standing.specs.declared.Test.{Test}
@@ -54,8 +55,8 @@ module _ (n : ℕ) (T B phase : List ℕ) where
   by-admission a e d = nothing-before 1 _ (firstBadPartition n T B phase) e ∙ ap (λ (u : Option ℕ). unlessBefore 2 u none) (sym d)
 
   table-fine : refusal (badTable n T B phase ∷ []) ≡ none → n ≤ 16
-  unfolding refusal
-  table-fine e = few-partitions n T B phase (none-before 1 _ none e)
+  unfolding has
+  table-fine e = few-partitions n T B phase (no-ground _ e 1 refl)
 
 module _ (t : Table) (s : State) (x : Test) (admitted : AdmissionIs t x) (r : Changed) where
   pub fresh-refused : (q : Refusal) → x ≡ test.Refused q → changedAs r ≡ kept (pairs s) (refusedAs q) → FreshIs t s r

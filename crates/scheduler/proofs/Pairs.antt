@@ -14,6 +14,7 @@ use Rattle.rules.specs.Numbers.{Pairs}
 use Rattle.rules.specs.Candidates.{idle}
 use Rattle.rules.specs.FreshStart.{zeros, freshB, freshO, freshStart}
 use Rattle.rules.specs.Tick.{spend, replenishes, nextB, nextO, passTime, tick}
+use Rattle.laws.proofs.Tick.{spends, spend-length}
 use Rattle.laws.proofs.Filled.{filled-beyond, filled-next, filled-still, filled-past}
 use Rattle.scheduler.specs.States.{spentPairs}
 use Rattle.scheduler.specs.declared.State.{State}
@@ -63,18 +64,14 @@ module _ (s : State) (pick : ℕ) where
       go true = refl
       go false = set-out (s .b) pick _ (rw long l)
 
-  one-of-sixteen : pick < 16 → spend (s .b) pick ≡ set (s .b) pick (s .b ! pick - 1)
-  unfolding spend
-  one-of-sixteen l = rw (ne-eqb pick idle (λ e. omega arith))
-
   pub nothing-to-spend : pick < 16 → s .b ! pick ≡ 0 → _≡_ {A = Pairs} (record { b = s .b; o = s .o }) (spentPairs s pick)
-  nothing-to-spend l empty = sym (ap (λ (b : List ℕ). record { b = b; o = s .o }) (one-of-sixteen l ∙ ap (λ x. set (s .b) pick x) same ∙ set-getD (s .b) pick 0))
+  nothing-to-spend l empty = sym (ap (λ (b : List ℕ). record { b = b; o = s .o }) (spends (s .b) pick (omega arith) ∙ ap (λ x. set (s .b) pick x) same ∙ set-getD (s .b) pick 0))
     where
       same : s .b ! pick - 1 ≡ s .b ! pick
       same = omega arith
 
   pub one-spent : pick < 16 → _≡_ {A = Pairs} (record { b = set (s .b) pick (s .b ! pick - 1); o = s .o }) (spentPairs s pick)
-  one-spent l = sym (ap (λ (b : List ℕ). record { b = b; o = s .o }) (one-of-sixteen l))
+  one-spent l = sym (ap (λ (b : List ℕ). record { b = b; o = s .o }) (spends (s .b) pick (omega arith)))
 
 -- ---- time has passed up to i
 pub record PassedTo (T B b o : List ℕ) (i : ℕ) (s : State) : Type 0 where
@@ -139,14 +136,6 @@ tick-is n T B s spent r pick e d = d ∙ ap (λ (p : Pairs). passTime n T B (p .
 pass-past : (m n : ℕ) (T B b o : List ℕ) → length b ≡ m → length o ≡ m → m ≤ n → passTime n T B b o ≡ passTime m T B b o
 unfolding passTime
 pass-past m n T B b o bs os l = λ i. record { b = filled-past m n (nextB B b o) b bs l i; o = filled-past m n (nextO T o) o os l i }
-
-spend-length : (b : List ℕ) (pick : ℕ) → length (spend b pick) ≡ length b
-unfolding spend
-spend-length b pick = go (eqb pick idle)
-  where
-    go : (a : Bool) → length (cond a b (set b pick (b ! pick - 1))) ≡ length b
-    go true = refl
-    go false = length-set b pick (b ! pick - 1)
 
 pub tick-all : (n : ℕ) (T B : List ℕ) (s spent r : State) (pick : ℕ) → length (s .b) ≡ 16 → length (s .o) ≡ 16 → 16 < n → _≡_ {A = Pairs} (record { b = spent .b; o = spent .o }) (spentPairs s pick)
     → _≡_ {A = Pairs} (record { b = r .b; o = r .o }) (passTime 16 T B (spent .b) (spent .o)) → _≡_ {A = Pairs} (record { b = r .b; o = r .o }) (tick n T B (s .b) (s .o) pick)
