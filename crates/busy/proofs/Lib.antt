@@ -1,5 +1,3 @@
--- sums as a loop makes them
-pub mod Sums
 -- one partition's replenishments
 pub mod Refill
 -- the repetition

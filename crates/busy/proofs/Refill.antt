@@ -9,10 +9,10 @@ use lib.Dec.{ltb}
 use mir.Syntax.{w64}
 use mir.Val.{Fits}
 use Rattle.basis.specs.Words.{ceil}
+use Rattle.basis.specs.Reckoned.{Reckoned}
 use Rattle.rules.specs.BusyLength.{arrivals}
-use Rattle.laws.proofs.Ceil.{ceil-le, ceil-by-zero, ceil-zero, ceil-step}
+use Rattle.laws.proofs.Ceil.{ceil-times, ceil-by-zero, ceil-zero, ceil-step}
 use Rattle.laws.proofs.Arrivals.{arrivals-none}
-use Rattle.busy.specs.Inner.{Reckoned}
 
 module _ (T B o W : ℕ) where
   -- W is not past the next one
@@ -38,20 +38,10 @@ module _ (T B o W : ℕ) where
   none-ever e = record { is = sym (rw (e, ceil-by-zero (W - o)) (zero-mul B)); small = omega arith }
 
   module _ (more : o < W) (near : W < 131072) (some-period : T ≡ 0 → ⊥) (small : B < 65536) where
-    most-due : (W - o + (T - 1)) / T ≤ W - o
-    unfolding ceil
-    most-due = ceil-le (W - o) T (W - o) (omega arith) (enough T some-period)
-      where
-        enough : (t : ℕ) → (t ≡ 0 → ⊥) → W - o ≤ (W - o) * t
-        enough zero some = absurd (some refl)
-        enough (suc t) some = omega arith
-
     product : (W - o + (T - 1)) / T * B < 8589934592
+    unfolding ceil
     product =
-        let count = most-due in
-        let few : (W - o + (T - 1)) / T ≤ 131071 = omega arith in
-        let less : B ≤ 65535 = omega arith in
-        let part : (W - o + (T - 1)) / T * B ≤ 131071 * 65535 = mul-le-mul few less in
+        let part : (W - o + (T - 1)) / T * B ≤ 131071 * 65535 = ceil-times (W - o) T B 131071 65535 some-period (omega arith) (omega arith) in
         omega arith
 
     pub product-fits : Fits w64 ((W - o + (T - 1)) / T * B)

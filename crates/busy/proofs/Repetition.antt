@@ -9,11 +9,12 @@ use native.Mathlib.Omega.{arith}
 use borrow.Author.Tests.{lt-ltb, le-ltb}
 use lib.Dec.{ltb}
 use Rattle.basis.specs.Words.{_!_, sumBelow, settle}
+use Rattle.basis.specs.Reckoned.{Reckoned}
 use Rattle.rules.specs.BusyLength.{active, busyStart, refill, busySum, deadline, busyTest}
 use Rattle.laws.proofs.Totals.{sum-mono, sum-one-more}
 use Rattle.laws.proofs.Settle.{Rising, Repeating, repeating-begins, repeated-past, repeated-still, repeating-rises, repeating-on}
 use Rattle.laws.proofs.BusyLength.{refill-mono}
-use Rattle.busy.specs.Inner.{Reckoned, filling}
+use Rattle.busy.specs.Inner.{filling}
 
 -- "b > 0" decides what is counted
 pub counted-above : (b h : ℕ) → 0 < b → h ≡ cond (ltb 0 b) h (h + 1)
@@ -40,16 +41,16 @@ module _ (T B o : List ℕ) (top start D : ℕ) where
 
   -- the loop has come to W
   pub Going : ℕ → Type 0
-  Going W = Repeating (filling T B o top start) D Settles W
+  Going W = Repeating (filling T B o top start) (ltb D) D Settles W
 
   pub going-begins : Going start
   unfolding Going filling
-  going-begins = repeating-begins (filling T B o top start) D start (omega arith)
+  going-begins = repeating-begins (filling T B o top start) (ltb D) D start (omega arith)
 
   module _ (W : ℕ) (here : Going W) where
     pub going-over : D < W → none ≡ Settles
     unfolding Going
-    going-over l = repeated-past (filling T B o top start) D filling-rising Settles W here l
+    going-over l = repeated-past (filling T B o top start) (ltb D) D filling-rising Settles W here (lt-ltb D W l)
 
     module _ (r : ℕ) (next : Reckoned 137438953473 (sumBelow top (λ j. refill T B o j W)) r) where
       sum-is : start + r ≡ filling T B o top start W
@@ -58,15 +59,15 @@ module _ (T B o : List ℕ) (top start D : ℕ) where
 
       pub going-still : W ≤ D → start + r ≡ W → some W ≡ Settles
       unfolding Going
-      going-still l e = repeated-still (filling T B o top start) D filling-rising Settles W here l (sym sum-is ∙ e)
+      going-still l e = repeated-still (filling T B o top start) (ltb D) D filling-rising Settles W here (le-ltb D W l) l (sym sum-is ∙ e)
 
       pub going-up : (start + r ≡ W → ⊥) → W < start + r
       unfolding Going
-      going-up moved = rw sum-is (repeating-rises (filling T B o top start) D filling-rising Settles W here (λ e. moved (sum-is ∙ e)))
+      going-up moved = rw sum-is (repeating-rises (filling T B o top start) (ltb D) D filling-rising Settles W here (λ e. moved (sum-is ∙ e)))
 
       pub going-on : W ≤ D → (start + r ≡ W → ⊥) → Going (start + r)
       unfolding Going
-      going-on l moved = rw sum-is (repeating-on (filling T B o top start) D filling-rising Settles W here l (λ e. moved (sum-is ∙ e)))
+      going-on l moved = rw sum-is (repeating-on (filling T B o top start) (ltb D) D filling-rising Settles W here (le-ltb D W l) l (λ e. moved (sum-is ∙ e)))
 
       pub going-nearer : W ≤ D → (start + r ≡ W → ⊥) → D + 1 - (start + r) < D + 1 - W
       going-nearer l moved = let up = going-up moved in omega arith

@@ -4,9 +4,10 @@ ghost use mathlib.Core.Bool.{cond};
 ghost use Prim.Native.Nat.{suc, _+_, _*_, _<_, _≤_};
 ghost use lib.Dec.{ltb};
 ghost use Rattle.basis.specs.Words.{_!_, sumBelow, settle};
+ghost use Rattle.basis.specs.Reckoned.{Reckoned};
 ghost use Rattle.rules.specs.BusyLength.{arrivals, refill, busyTest};
 ghost use Rattle.busy.specs.Promises.{BusyLengthIs, PassesIs};
-ghost use Rattle.busy.specs.Inner.{Reckoned, filling};
+ghost use Rattle.busy.specs.Inner.{filling};
 ghost use Rattle.busy.specs.Spans.{spanAs};
 
 // Where the repetition ends: within the deadline, after so many ticks, or past it.

@@ -73,7 +73,7 @@ module _ (n : ℕ) (T B b o : List ℕ) where
     where
       partitions : map name (those n chosen) ≡ those n (λ c. active b c && mayRun T B b o inversion c)
       partitions =
-          map-those-same n chosen name (λ c. c) (λ c l. sym (named-partition n c l)) ∙ map-id (those n chosen) ∙ those-same n chosen _ chosen-there
+          map-those-same n chosen name (λ c. c) (λ c l on. sym (named-partition n c l)) ∙ map-id (those n chosen) ∙ those-same n chosen _ chosen-there
 
       idle-wants : true ≡ wants n
       idle-wants = waits-idle n b n (le-refl n)

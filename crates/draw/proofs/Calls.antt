@@ -24,8 +24,9 @@ use Rattle.ranges.specs.Outcome.{Outcome, refused, gives, unlessRefused}
 use Rattle.ranges.specs.Verdicts.{verdictAs}
 use Rattle.ranges.specs.declared.Verdict.{Verdict}
 use Rattle.ranges.specs.declared.Verdict.the-variants as verdict
-use Rattle.ranges.proofs.Verdicts.{verdict-refused, verdict-good, four}
-use Rattle.ranges.proofs.Outcomes.{refused-early, refused-late, not-at-all, few-of-state}
+use Rattle.laws.proofs.Refusals.{four, late-last}
+use Rattle.ranges.proofs.Verdicts.{verdict-refused, verdict-good, refused-early}
+use Rattle.ranges.proofs.Outcomes.{refused-late, not-at-all, few-of-state}
 use Rattle.candidates.specs.Padded.{padded}
 use Rattle.candidates.specs.Promises.{candidatesOf, SearchIs}
 use Rattle.candidates.specs.declared.Found.{Found}
@@ -179,7 +180,7 @@ module _ (n : ℕ) (T B phase b o words : List ℕ) (v : Verdict) (judged : verd
 
   pub decision-refused : (r : Refusal) → v ≡ verdict.Refused r → refused (refusedAs r) ≡ Said
   unfolding unlessRefused
-  decision-refused r d = says _ (refused-early _ _ _ four v judged r d)
+  decision-refused r d = says _ (refused-early (late-last _ _ _ four) v judged r d)
 
   pub decision-wordless : v ≡ verdict.Good → length words ≡ 0 → refused (record { number = 4; second = 0 }) ≡ Said
   unfolding unlessRefused

@@ -13,7 +13,7 @@ use lib.Seq.{drop-cons, drop-length, getD-take, length-take-le}
 use Rattle.basis.specs.Words.{_!_, total}
 use Rattle.rules.specs.Candidates.{idle}
 use Rattle.rules.specs.Pick.{firstExceeding}
-use Rattle.busy.specs.Inner.{Reckoned}
+use Rattle.basis.specs.Reckoned.{Reckoned}
 
 module _ (list ws : List ℕ) (used at : ℕ) where
   -- what the whole loop gives

@@ -7,7 +7,7 @@ ghost use lib.ListN as Seq;
 ghost use Rattle.rules.specs.Candidates.{idle};
 ghost use Rattle.rules.specs.Weights.{idleWeight};
 ghost use Rattle.rules.specs.Pick.{firstExceeding};
-ghost use Rattle.busy.specs.Inner.{Reckoned};
+ghost use Rattle.basis.specs.Reckoned.{Reckoned};
 ghost use Rattle.draw.specs.Inner.{weightOf, Usable, ScalesAre};
 ghost use Rattle.draw.specs.Promises.{ChooseIs, WeightsAre, DecideIs};
 use candidates::search;

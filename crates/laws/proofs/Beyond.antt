@@ -2,19 +2,19 @@
 use Prim.Native.Nat.{ℕ, suc, _+_, _≤_, _<_}
 use mathlib.Core.Path.{_≡_, refl, ap, ap₂, _∙_, fun-ext}
 use mathlib.Core.Bool.{cond, not, _&&_, _||_}
-use mathlib.Core.List.{List, [], _∷_, map}
+use mathlib.Core.List.{List, [], _∷_}
 use mathlib.Core.Option.{Option, some}
 use native.Mathlib.Nat.{lt-trans, lt-of-lt-of-le, le-refl}
 use mathlib.Core.Logic.{⊎-elim}
 use borrow.Author.Tests.{le-ltb}
 use native.Mathlib.Omega.{arith}
 use lib.Dec.{ltb, leb, eqb}
-use lib.ListN.{length}
 use Rattle.basis.specs.Words.{_!_, first, found, all, settle}
 use Rattle.laws.proofs.Tests.{below-or-not}
 use Rattle.laws.proofs.Totals.{sum-same}
-use Rattle.laws.proofs.Places.{first-same, all-same, those-same, map-those-same}
+use Rattle.laws.proofs.Places.{first-same, all-same, those-same}
 use Rattle.laws.proofs.Filled.{filled-same}
+use Rattle.laws.proofs.TaskResponse.{others-apart}
 use Rattle.rules.specs.Numbers.{mostPartitions, mostTasks, partitionInRange, firstBadPartition, taskInRange, firstBadTask, pairInRange, firstBadPair, Pairs}
 use Rattle.rules.specs.Admission.{demand, atRest, responseWithin, firstUnadmitted}
 use Rattle.rules.specs.FreshStart.{freshB, freshO, freshStart, zeros}
@@ -25,7 +25,7 @@ use Rattle.rules.specs.Weights.{memberWeights, weights}
 use Rattle.rules.specs.Pick.{S, decision}
 use Rattle.rules.specs.Tick.{spend, nextB, nextO, passTime, tick, tickAllowed}
 use Rattle.rules.specs.Run.{Ran, run}
-use Rattle.rules.specs.TaskResponse.{Work, ownTasks, rankOf, responseOfTask}
+use Rattle.rules.specs.TaskResponse.{responseOfTask}
 
 -- two lists have the same entries below n
 abbrev pub Agree : ℕ → List ℕ → List ℕ → Type 0
@@ -163,19 +163,9 @@ module _ (m : ℕ) (part p e part′ p′ e′ : List ℕ) (x : Agree m part par
       ap (λ (a : Option ℕ). cond (ltb mostTasks m) (some mostTasks) a)
       (first-same m (λ i. not (taskInRange n (part ! i) (p ! i) (e ! i))) (λ i. not (taskInRange n (part′ ! i) (p′ ! i) (e′ ! i))) (λ i l. rw (x i l, y i l, z i l)))
 
-  own-same : (h : ℕ) → ownTasks m part p e h ≡ ownTasks m part′ p′ e′ h
-  unfolding ownTasks
-  own-same h =
-      ap (map (λ i. record { p = p ! i; e = e ! i })) (those-same m _ _ (λ i l. ap (λ k. eqb k h) (x i l)))
-      ∙ map-those-same {A = Work} m (λ i. eqb (part′ ! i) h) _ _ (λ i l. ap₂ (λ (a c : ℕ). record { p = a; e = c }) (y i l) (z i l))
-
-  rank-same : (i : ℕ) → i < m → rankOf part i ≡ rankOf part′ i
-  unfolding rankOf
-  rank-same i l = ap length (those-same i _ _ (λ j k. ap₂ eqb (x j (lt-trans k l)) (x i l)))
-
   -- the response of a task that is there, in a partition that is there
   pub response-of-task-same : (n : ℕ) (T B T′ B′ : List ℕ) → Agree n T T′ → Agree n B B′ → (i : ℕ) → i < m → part ! i < n
       → responseOfTask T B m part p e i ≡ responseOfTask T′ B′ m part′ p′ e′ i
-  unfolding responseOfTask
   response-of-task-same n T B T′ B′ t u i l k =
-      rw (own-same (part ! i), rank-same i l, t (part ! i) k, u (part ! i) k, x i l)
+      others-apart (part ! i) m part p e part′ p′ e′ (λ j a. ap (λ h. eqb h (part ! i)) (x j a)) (λ j a on. y j a) (λ j a on. z j a)
+      T B T′ B′ (t (part ! i) k) (u (part ! i) k) i l refl

@@ -5,6 +5,8 @@ pub mod Totals
 pub mod Places
 pub mod Filled
 pub mod Settle
+-- sums as a loop makes them
+pub mod Reckoning
 -- Then those about the rules: a file has the name of the rules that its laws are about.
 pub mod Numbers
 pub mod Arrivals
@@ -15,6 +17,7 @@ pub mod Candidates
 pub mod Weights
 pub mod Pick
 pub mod Tick
+pub mod TaskResponse
 pub mod Refusals
 -- a fresh start, a tick and a release give states in range
 pub mod Keeps

@@ -1,4 +1,4 @@
--- What being in range says of each partition and each pair.
+-- What being in range says of each partition, each task and each pair.
 use Prim.Native.Nat.{ℕ, _-_, _≤_, _<_}
 use mathlib.Core.Path.{_≡_, refl, _∙_, sym}
 use mathlib.Core.Bool.{Bool, true, false, cond, not, _&&_}
@@ -6,13 +6,13 @@ use mathlib.Core.List.{List}
 use mathlib.Core.Option.{some, none}
 use mathlib.Core.Logic.{⊎-elim}
 use native.Mathlib.Omega.{arith}
-use borrow.Author.Tests.{ltb-false, lt-ltb, le-ltb, eqb-true, eqb-false, eq-eqb, not-false}
+use borrow.Author.Tests.{ltb-true, ltb-false, lt-ltb, le-ltb, eqb-true, eqb-false, eq-eqb, not-false}
 use lib.Dec.{eqb, ltb}
 use lib.ListN.{length}
 use Rattle.basis.specs.Words.{_!_, within, first}
 use Rattle.laws.proofs.Tests.{both, and-left, and-right, within-low, within-high, is-within, below-or-not, some-is-none}
 use Rattle.laws.proofs.Places.{first-none, none-first}
-use Rattle.rules.specs.Numbers.{mostPartitions, partitionInRange, firstBadPartition, TableInRange, pairInRange, firstBadPair, StateInRange}
+use Rattle.rules.specs.Numbers.{mostPartitions, mostTasks, partitionInRange, firstBadPartition, TableInRange, taskInRange, firstBadTask, TasksInRange, pairInRange, firstBadPair, StateInRange}
 
 pub record GoodPartition (T B phase : ℕ) : Type 0 where
   pub period : 1 ≤ T
@@ -56,6 +56,37 @@ table-good n T B phase p = go (eqb n 0) refl (ltb mostPartitions n) refl p
           not-many = ltb-false mostPartitions n d;
           each = λ i l. partition-good _ _ _ (not-false _ (first-none n _ q i l));
         }
+
+-- ---- tasks
+pub record GoodTask (n partition p e : ℕ) : Type 0 where
+  pub there : partition < n
+  pub gap : 1 ≤ p
+  pub cost : 1 ≤ e
+  pub affordable : e ≤ p
+
+pub record GoodTasks (n m : ℕ) (partition p e : List ℕ) : Type 0 where
+  pub not-many : m ≤ mostTasks
+  pub each : (i : ℕ) → i < m → GoodTask n (partition ! i) (p ! i) (e ! i)
+
+task-good : (n partition p e : ℕ) → taskInRange n partition p e ≡ true → GoodTask n partition p e
+unfolding taskInRange
+task-good n partition p e q =
+    let fields = and-left _ _ q in
+    let last = and-right (ltb partition n && within 1 65535 p) _ q in
+    record {
+      there = ltb-true partition n (and-left _ _ fields);
+      gap = within-low 1 65535 p (and-right (ltb partition n) _ fields);
+      cost = within-low 1 p e last;
+      affordable = within-high 1 p e last;
+    }
+
+pub tasks-good : (n m : ℕ) (partition p e : List ℕ) → TasksInRange n m partition p e → GoodTasks n m partition p e
+unfolding firstBadTask
+tasks-good n m partition p e q = go (ltb mostTasks m) refl q
+  where
+    go : (t : Bool) → ltb mostTasks m ≡ t → cond t (some mostTasks) (first m (λ i. not (taskInRange n (partition ! i) (p ! i) (e ! i)))) ≡ none → GoodTasks n m partition p e
+    go true d r = some-is-none r
+    go false d r = record { not-many = ltb-false mostTasks m d; each = λ i l. task-good _ _ _ _ (not-false _ (first-none m _ r i l)) }
 
 -- ---- pairs
 pub record GoodPair (T B b o : ℕ) : Type 0 where

@@ -2,7 +2,7 @@
 use Prim.Native.Nat.{ℕ, zero, suc, _+_, _≤_, _<_, zero-le}
 use mathlib.Core.Path.{_≡_, refl, _∙_, ap, ap₂, sym, subst}
 use mathlib.Core.Bool.{Bool, true, false, cond, not, _&&_, _||_}
-use mathlib.Core.List.{List, [], _∷_, _++_, append-nil, map, map-append}
+use mathlib.Core.List.{List, [], _∷_, _++_, append-nil, append-assoc, map, map-append}
 use mathlib.Core.Option.{Option, some, none}
 use mathlib.Core.Logic.{_⊎_, inl, inr, ⊎-elim}
 use native.Mathlib.Nat.{le-refl, le-step, le-antisymm, lt-suc-self, le-of-suc-le-suc}
@@ -205,17 +205,30 @@ those-increasing (suc n) test = go (test n) (those-increasing n test)
     go true up = increasing-more (those n test) n up (λ i l. those-has n test _ (has-entry (those n test) i l) .below)
     go false up = rw append-nil up
 
-pub map-those-same : {A : Type 0} (n : ℕ) (test : ℕ → Bool) (f g : ℕ → A) → ((i : ℕ) → i < n → f i ≡ g i) → map f (those n test) ≡ map g (those n test)
+pub map-those-same : {A : Type 0} (n : ℕ) (test : ℕ → Bool) (f g : ℕ → A) → ((i : ℕ) → i < n → test i ≡ true → f i ≡ g i)
+    → map f (those n test) ≡ map g (those n test)
 unfolding those
 map-those-same zero test f g h = refl
 map-those-same (suc n) test f g h =
     map-append f (those n test) _
-    ∙ ap₂ _++_ (map-those-same n test f g (λ i l. h i (le-step l))) (last (test n))
+    ∙ ap₂ _++_ (map-those-same n test f g (λ i l. h i (le-step l))) (last (test n) refl)
     ∙ sym (map-append g (those n test) _)
   where
-    last : (t : Bool) → map f (cond t (n ∷ []) []) ≡ map g (cond t (n ∷ []) [])
-    last true = ap (λ x. x ∷ []) (h n (lt-suc-self n))
-    last false = refl
+    last : (t : Bool) → test n ≡ t → map f (cond t (n ∷ []) []) ≡ map g (cond t (n ∷ []) [])
+    last true on = ap (λ x. x ∷ []) (h n (lt-suc-self n) on)
+    last false off = refl
+
+-- one that passes stands after those before it
+pub those-split : (i n : ℕ) (test : ℕ → Bool) → i < n → test i ≡ true → (later : List ℕ) × (those n test ≡ those i test ++ i ∷ later)
+unfolding those
+those-split i zero test l on = absurd (omega arith)
+those-split i (suc n) test l on = below-cases n i l here (λ k. further (those-split i n test k on))
+  where
+    here : i ≡ n → (later : List ℕ) × (those n test ++ cond (test n) (n ∷ []) [] ≡ those i test ++ i ∷ later)
+    here e = ([], ap₂ (λ (xs : List ℕ) (t : Bool). xs ++ cond t (n ∷ []) []) (ap (λ k. those k test) (sym e)) (ap test (sym e) ∙ on) ∙ ap (λ k. those i test ++ k ∷ []) (sym e))
+
+    further : (later : List ℕ) × (those n test ≡ those i test ++ i ∷ later) → (later : List ℕ) × (those n test ++ cond (test n) (n ∷ []) [] ≡ those i test ++ i ∷ later)
+    further (later, e) = (later ++ cond (test n) (n ∷ []) [], ap (λ (xs : List ℕ). xs ++ cond (test n) (n ∷ []) []) e ∙ append-assoc (those i test) (i ∷ later) _)
 
 -- no more than n numbers below n, and none after the last that passes
 pub those-short : (n : ℕ) (test : ℕ → Bool) → length (those n test) ≤ n

@@ -1,18 +1,18 @@
 -- A refusal's two numbers say which it is, and of several grounds the first in 01's order is given.
 use Prim.Native.Nat.{ℕ}
-use mathlib.Core.Path.{_≡_, refl, ap, _∙_, sym}
-use mathlib.Core.Bool.{true, cond}
-use mathlib.Core.List.{List, [], _∷_, _++_}
+use mathlib.Core.Path.{_≡_, refl, ap, ap₂, _∙_, sym}
+use mathlib.Core.Bool.{Bool, true, false, cond, not, _&&_, _||_}
+use mathlib.Core.List.{List, [], _∷_, _++_, append-nil}
 use mathlib.Core.Logic.{⊎-elim}
 use mathlib.Core.Option.{Option, some, none, Option·some-injective}
 use lib.Dec.{eqb}
-use lib.ListN.{length}
+use lib.ListN.{length, take, drop, take-append-drop}
 use Rattle.basis.specs.Words.{has, those}
-use Rattle.laws.proofs.Tests.{or-cases, never, some-is-none, none-is-some}
-use borrow.Author.Tests.{eqb-true}
+use Rattle.laws.proofs.Tests.{and-left, and-right, or-left, or-right, or-cases, never, some-is-none, none-is-some}
+use borrow.Author.Tests.{eqb-true, eq-eqb, not-true}
 use Rattle.rules.specs.declared.Refusal.{Refusal}
 use Rattle.rules.specs.declared.Refusal.the-variants.{BadPartition, NotAdmitted, BadPair, NoWord, NotListed, NotActive, ShortBuffer, BadRecord, BadTask}
-use Rattle.rules.specs.Refusals.{Refused, refusedAs, Ground, appliesTo, unlessBefore, firstApplying, order, refusal}
+use Rattle.rules.specs.Refusals.{Refused, refusedAs, Ground, ground, appliesTo, unlessBefore, firstApplying, order, refusal}
 
 -- the refusal with these two numbers
 named : Refused → Refusal
@@ -90,6 +90,159 @@ none-applying (j ∷ js) gs p k h = go (appliesTo gs j) refl p (none-applying js
 pub no-ground : (gs : List Ground) → refusal gs ≡ none → (k : ℕ) → has order k ≡ true → appliesTo gs k ≡ none
 unfolding refusal
 no-ground gs e k l = none-applying order gs e k l
+
+-- ---- a call that judges some grounds first and others then
+-- a ground has that number
+abbrev pub numbered : List Ground → ℕ → Bool
+numbered [] k = false
+numbered (g ∷ gs) k = eqb (g .number) k || numbered gs k
+
+-- no ground has one of these numbers
+abbrev pub apart : List ℕ → List Ground → Bool
+apart [] gs = true
+apart (k ∷ ks) gs = not (numbered gs k) && apart ks gs
+
+-- the first refusal, or the second where there is no first
+orRefused : Option Refused → Option Refused → Option Refused
+orRefused (some r) other = some r
+orRefused none other = other
+
+not-numbered : (numbers : List ℕ) (gs : List Ground) → apart numbers gs ≡ true → (k : ℕ) → has numbers k ≡ true → numbered gs k ≡ false
+unfolding has
+not-numbered [] gs free k h = never h refl
+not-numbered (j ∷ js) gs free k h =
+    ⊎-elim
+    (λ s. ap (numbered gs) (eqb-true k j s) ∙ not-true _ (and-left _ _ free))
+    (not-numbered js gs (and-right (not (numbered gs j)) _ free) k)
+    (or-cases (eqb k j) _ h)
+
+applies-later : (hs ks : List Ground) (k : ℕ) → numbered hs k ≡ false → appliesTo (hs ++ ks) k ≡ appliesTo ks k
+applies-later [] ks k free = refl
+applies-later (g ∷ hs) ks k free = go (eqb (g .number) k) free (applies-later hs ks k)
+  where
+    go : (t : Bool) → (t || numbered hs k) ≡ false → (numbered hs k ≡ false → appliesTo (hs ++ ks) k ≡ appliesTo ks k)
+        → cond t (g .applies) (appliesTo (hs ++ ks) k) ≡ appliesTo ks k
+    go true e next = never refl e
+    go false e next = next e
+
+applies-not : (numbers : List ℕ) (gs : List Ground) → apart numbers gs ≡ true → (k : ℕ) → has numbers k ≡ true → appliesTo gs k ≡ none
+applies-not numbers gs free k h = ap (λ (l : List Ground). appliesTo l k) (sym (append-nil gs)) ∙ applies-later gs [] k (not-numbered numbers gs free k h)
+
+applies-earlier : (hs ks : List Ground) (k : ℕ) → appliesTo ks k ≡ none → appliesTo (hs ++ ks) k ≡ appliesTo hs k
+applies-earlier [] ks k e = e
+applies-earlier (g ∷ hs) ks k e = ap (cond (eqb (g .number) k) (g .applies)) (applies-earlier hs ks k e)
+
+applying-same : (numbers : List ℕ) (gs hs : List Ground) → ((k : ℕ) → has numbers k ≡ true → appliesTo gs k ≡ appliesTo hs k) → firstApplying numbers gs ≡ firstApplying numbers hs
+unfolding has
+applying-same [] gs hs e = refl
+applying-same (k ∷ ks) gs hs e =
+    ap₂ (unlessBefore k) (e k (or-left _ (eq-eqb k k refl))) (applying-same ks gs hs (λ j h. e j (or-right (eqb j k) h)))
+
+applying-append : (xs ys : List ℕ) (gs : List Ground) → firstApplying (xs ++ ys) gs ≡ orRefused (firstApplying xs gs) (firstApplying ys gs)
+unfolding orRefused
+applying-append [] ys gs = refl
+applying-append (k ∷ xs) ys gs = ap (unlessBefore k (appliesTo gs k)) (applying-append xs ys gs) ∙ go (appliesTo gs k)
+  where
+    go : (a : Option ℕ) → unlessBefore k a (orRefused (firstApplying xs gs) (firstApplying ys gs)) ≡ orRefused (unlessBefore k a (firstApplying xs gs)) (firstApplying ys gs)
+    go (some i) = refl
+    go none = refl
+
+applying-none : (numbers : List ℕ) (gs : List Ground) → apart numbers gs ≡ true → firstApplying numbers gs ≡ none
+applying-none numbers gs free = applying-same numbers gs [] (applies-not numbers gs free) ∙ nothing numbers
+  where
+    nothing : (ks : List ℕ) → firstApplying ks [] ≡ none
+    nothing [] = refl
+    nothing (k ∷ ks) = nothing ks
+
+-- the first have only numbers before some place of the order, the others only numbers from there on
+pub record InTurn (hs ks : List Ground) : Type 0 where
+  pub place : ℕ
+  pub early : apart (drop place order) hs ≡ true
+  pub late : apart (take place order) ks ≡ true
+
+module _ {hs ks : List Ground} (turn : InTurn hs ks) where
+  abbrev before : List ℕ
+  before = take (turn .place) order
+
+  abbrev after : List ℕ
+  after = drop (turn .place) order
+
+  parted : (gs : List Ground) → refusal gs ≡ orRefused (firstApplying before gs) (firstApplying after gs)
+  unfolding refusal
+  parted gs = ap (λ (l : List ℕ). firstApplying l gs) (sym (take-append-drop (turn .place) order)) ∙ applying-append before after gs
+
+  in-turn : refusal (hs ++ ks) ≡ orRefused (refusal hs) (refusal ks)
+  unfolding orRefused
+  in-turn =
+      parted (hs ++ ks)
+      ∙ ap₂ orRefused first-part second-part
+      ∙ sym (ap₂ orRefused (parted hs ∙ ap (orRefused early-hs) (applying-none after hs (turn .early)) ∙ or-none early-hs)
+      (parted ks ∙ ap (λ (r : Option Refused). orRefused r (firstApplying after ks)) (applying-none before ks (turn .late))))
+    where
+      early-hs : Option Refused
+      early-hs = firstApplying before hs
+
+      or-none : (r : Option Refused) → orRefused r none ≡ r
+      or-none (some r) = refl
+      or-none none = refl
+
+      first-part : firstApplying before (hs ++ ks) ≡ early-hs
+      first-part = applying-same before (hs ++ ks) hs (λ k h. applies-earlier hs ks k (applies-not before ks (turn .late) k h))
+
+      second-part : firstApplying after (hs ++ ks) ≡ firstApplying after ks
+      second-part = applying-same after (hs ++ ks) ks (λ k h. applies-later hs ks k (not-numbered after hs (turn .early) k h))
+
+  -- where one of the first applies, it is the refusal
+  pub refused-first : (r : Refused) → refusal hs ≡ some r → refusal (hs ++ ks) ≡ some r
+  unfolding orRefused
+  refused-first r e = in-turn ∙ ap (λ (x : Option Refused). orRefused x (refusal ks)) e
+
+  -- and where none does, the others decide
+  pub refused-then : refusal hs ≡ none → refusal (hs ++ ks) ≡ refusal ks
+  unfolding orRefused
+  refused-then e = in-turn ∙ ap (λ (x : Option Refused). orRefused x (refusal ks)) e
+
+-- 1 comes before 9, 2 and 3
+pub table-then-tasks : (x y : Option ℕ) → InTurn (ground 1 x ∷ []) (ground 9 y ∷ [])
+table-then-tasks x y = record { place = 2; early = refl; late = refl }
+
+pub table-then-admission : (x y : Option ℕ) → InTurn (ground 1 x ∷ []) (ground 2 y ∷ [])
+table-then-admission x y = record { place = 2; early = refl; late = refl }
+
+pub table-then-state : (x y : Option ℕ) → InTurn (ground 1 x ∷ []) (ground 3 y ∷ [])
+table-then-state x y = record { place = 2; early = refl; late = refl }
+
+-- the numbers that come after 1 and 3
+pub data Late : ℕ → Type 0 where
+  four : Late 4
+  five : Late 5
+  six : Late 6
+  seven : Late 7
+
+pub late-last : (x y z : Option ℕ) {k : ℕ} → Late k → InTurn (ground 1 x ∷ ground 3 y ∷ []) (ground k z ∷ [])
+late-last x y z four = record { place = 5; early = refl; late = refl }
+late-last x y z five = record { place = 5; early = refl; late = refl }
+late-last x y z six = record { place = 5; early = refl; late = refl }
+late-last x y z seven = record { place = 5; early = refl; late = refl }
+
+-- a ground by itself
+abbrev pub Alone : ℕ → Type 0
+Alone k = (z : Option ℕ) → refusal (ground k z ∷ []) ≡ unlessBefore k z none
+
+pub table-alone : Alone 1
+unfolding refusal
+table-alone z = refl
+
+pub tasks-alone : Alone 9
+unfolding refusal
+tasks-alone z = refl
+
+pub late-alone : {k : ℕ} → Late k → Alone k
+unfolding refusal
+late-alone four z = refl
+late-alone five z = refl
+late-alone six z = refl
+late-alone seven z = refl
 
 -- the order has each of the nine once
 pub order-whole : (length order ≡ 9) × (those 10 (has order) ≡ 1 ∷ 2 ∷ 3 ∷ 4 ∷ 5 ∷ 6 ∷ 7 ∷ 8 ∷ 9 ∷ [])

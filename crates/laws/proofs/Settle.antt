@@ -5,8 +5,8 @@ use mathlib.Core.Bool.{Bool, true, false, cond}
 use mathlib.Core.Option.{Option, some, none}
 use native.Mathlib.Nat.{le-trans}
 use native.Mathlib.Omega.{arith}
-use borrow.Author.Tests.{eqb-true, eqb-false, lt-ltb, le-ltb, eq-eqb, ne-eqb}
-use lib.Dec.{eqb, ltb}
+use borrow.Author.Tests.{eqb-true, eqb-false, eq-eqb, ne-eqb}
+use lib.Dec.{eqb}
 use Rattle.basis.specs.Words.{settle}
 use Rattle.laws.proofs.Tests.{never, none-is-some}
 
@@ -69,51 +69,52 @@ module _ (f : ℕ → ℕ) (past : ℕ → Bool) (rising : Rising f) where
           raised : (f x ≡ x → ⊥) → x < f x
           raised differs = omega arith
 
--- ---- a loop that repeats f, and has come to x: what is left to repeat gives the same answer
-pub record Repeating (f : ℕ → ℕ) (D : ℕ) (answer : Option ℕ) (x : ℕ) : Type 0 where
+-- ---- a loop that repeats f, and has come to x: what is left to repeat gives the same answer. D is a number that all within the bound are at most
+pub record Repeating (f : ℕ → ℕ) (past : ℕ → Bool) (D : ℕ) (answer : Option ℕ) (x : ℕ) : Type 0 where
   pub rounds : ℕ
-  pub same : settle rounds f (ltb D) x ≡ answer
+  pub same : settle rounds f past x ≡ answer
   pub enough : D < x + rounds
   pub rises : x ≤ f x
 
-module _ (f : ℕ → ℕ) (D : ℕ) where
-  pub repeating-begins : (x : ℕ) → x ≤ f x → Repeating f D (settle (suc D) f (ltb D) x) x
+module _ (f : ℕ → ℕ) (past : ℕ → Bool) (D : ℕ) where
+  pub repeating-begins : (x : ℕ) → x ≤ f x → Repeating f past D (settle (suc D) f past x) x
   repeating-begins x up = record { rounds = suc D; same = refl; enough = omega arith; rises = up }
 
-  settle-past : (rounds x : ℕ) → D < x → settle rounds f (ltb D) x ≡ none
+  settle-past : (rounds x : ℕ) → past x ≡ true → settle rounds f past x ≡ none
   unfolding settle
   settle-past zero x l = refl
-  settle-past (suc rounds) x l = rw (lt-ltb D x l)
+  settle-past (suc rounds) x l = rw l
 
-  settle-still : (rounds x : ℕ) → D < x + rounds → x ≤ D → f x ≡ x → settle rounds f (ltb D) x ≡ some x
+  settle-still : (rounds x : ℕ) → D < x + rounds → x ≤ D → past x ≡ false → f x ≡ x → settle rounds f past x ≡ some x
   unfolding settle
-  settle-still zero x fuel l e = absurd (omega arith)
-  settle-still (suc rounds) x fuel l e = rw (le-ltb D x l, eq-eqb (f x) x e)
+  settle-still zero x fuel l near e = absurd (omega arith)
+  settle-still (suc rounds) x fuel l near e = rw (near, eq-eqb (f x) x e)
 
-  settle-more : (rounds x : ℕ) → x ≤ D → (f x ≡ x → ⊥) → settle (suc rounds) f (ltb D) x ≡ settle rounds f (ltb D) (f x)
+  settle-more : (rounds x : ℕ) → past x ≡ false → (f x ≡ x → ⊥) → settle (suc rounds) f past x ≡ settle rounds f past (f x)
   unfolding settle
-  settle-more rounds x l moved = rw (le-ltb D x l, ne-eqb (f x) x moved)
+  settle-more rounds x near moved = rw (near, ne-eqb (f x) x moved)
 
-  module _ (rising : Rising f) (answer : Option ℕ) (x : ℕ) (here : Repeating f D answer x) where
-    pub repeated-past : D < x → none ≡ answer
+  module _ (rising : Rising f) (answer : Option ℕ) (x : ℕ) (here : Repeating f past D answer x) where
+    pub repeated-past : past x ≡ true → none ≡ answer
     repeated-past l = sym (settle-past (here .rounds) x l) ∙ here .same
-
-    pub repeated-still : x ≤ D → f x ≡ x → some x ≡ answer
-    repeated-still l e = sym (settle-still (here .rounds) x (here .enough) l e) ∙ here .same
 
     pub repeating-rises : (f x ≡ x → ⊥) → x < f x
     repeating-rises moved = let up = here .rises in omega arith
 
-    pub repeating-on : x ≤ D → (f x ≡ x → ⊥) → Repeating f D answer (f x)
-    repeating-on l moved = go (here .rounds) (here .same) (here .enough)
-      where
-        go : (rounds : ℕ) → settle rounds f (ltb D) x ≡ answer → D < x + rounds → Repeating f D answer (f x)
-        go zero e fuel = absurd (omega arith)
-        go (suc rounds) e fuel =
-            let up = repeating-rises moved in
-            record {
-              rounds = rounds;
-              same = sym (settle-more rounds x l moved) ∙ e;
-              enough = omega arith;
-              rises = rising x (f x) (here .rises);
-            }
+    module _ (near : past x ≡ false) (l : x ≤ D) where
+      pub repeated-still : f x ≡ x → some x ≡ answer
+      repeated-still e = sym (settle-still (here .rounds) x (here .enough) l near e) ∙ here .same
+
+      pub repeating-on : (f x ≡ x → ⊥) → Repeating f past D answer (f x)
+      repeating-on moved = go (here .rounds) (here .same) (here .enough)
+        where
+          go : (rounds : ℕ) → settle rounds f past x ≡ answer → D < x + rounds → Repeating f past D answer (f x)
+          go zero e fuel = absurd (omega arith)
+          go (suc rounds) e fuel =
+              let up = repeating-rises moved in
+              record {
+                rounds = rounds;
+                same = sym (settle-more rounds x near moved) ∙ e;
+                enough = omega arith;
+                rises = rising x (f x) (here .rises);
+              }

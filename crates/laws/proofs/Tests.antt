@@ -24,6 +24,12 @@ pub and-right : (a b : Bool) → (a && b) ≡ true → b ≡ true
 and-right true b p = p
 and-right false b p = absurd (true≢false (sym p))
 
+pub off-left : {a : Bool} (b : Bool) → a ≡ false → (a && b) ≡ false
+off-left b p = rw p
+
+pub off-right : {a b : Bool} → a ≡ true → b ≡ false → (a && b) ≡ false
+off-right p q = rw (p, q)
+
 pub or-left : {a : Bool} (b : Bool) → a ≡ true → (a || b) ≡ true
 or-left b p = rw p
 

@@ -68,6 +68,12 @@ unfolding total
 total-append [] ys = sym (zero-add (total ys))
 total-append (x ∷ xs) ys = ap (λ t. x + t) (total-append xs ys) ∙ sym (add-assoc x (total xs) (total ys))
 
+-- where each part is at most another, so is the sum
+pub total-mono : {A : Type 0} (xs : List A) (f g : A → ℕ) → ((x : A) → f x ≤ g x) → total (map f xs) ≤ total (map g xs)
+unfolding total
+total-mono [] f g h = le-refl 0
+total-mono (x ∷ xs) f g h = add-le-add (h x) (total-mono xs f g h)
+
 -- each entry's value is at most the sum of all
 pub total-part : (f : ℕ → ℕ) (xs : List ℕ) (x : ℕ) → has xs x ≡ true → f x ≤ total (map f xs)
 unfolding total has

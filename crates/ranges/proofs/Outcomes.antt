@@ -1,7 +1,7 @@
 -- From a verdict to what a call says.
 use Prim.Native.Nat.{ℕ, _≤_, _<_}
 use mathlib.Core.Path.{_≡_, refl, sym, _∙_, ap}
-use mathlib.Core.List.{List, [], _∷_}
+use mathlib.Core.List.{List, [], _∷_, _++_}
 use mathlib.Core.Option.{Option, some, none}
 use borrow.Author.Tests.{ltb-true}
 use lib.Dec.{ltb}
@@ -10,13 +10,13 @@ use Rattle.rules.specs.Numbers.{firstBadPartition, TableInRange, firstBadPair}
 use Rattle.rules.specs.Refusals.{Refused, refusedAs, Ground, ground, badTable, badTableOrIndex, badState, refusal, unlessBefore}
 use Rattle.rules.specs.declared.Refusal.{Refusal}
 use Rattle.laws.proofs.Tests.{some-is-none, unless-none}
-use Rattle.laws.proofs.Refusals.{no-ground}
+use Rattle.laws.proofs.Refusals.{no-ground, InTurn, Late, late-last, late-alone}
 use Rattle.laws.proofs.Numbers.{table-good}
 use Rattle.ranges.specs.Outcome.{Outcome, refused, gives, unlessRefused}
 use Rattle.ranges.specs.Verdicts.{verdictAs}
 use Rattle.ranges.specs.declared.Verdict.{Verdict}
 use Rattle.ranges.specs.declared.Verdict.the-variants as verdict
-use Rattle.ranges.proofs.Verdicts.{verdict-refused, verdict-good, table-first, then-state, Late, first-two, third-after}
+use Rattle.ranges.proofs.Verdicts.{verdict-refused, verdict-good, refused-early, left-to-others}
 
 module _ {A : Type 0} (x : A) (gs : List Ground) where
   -- a refusal is handed on
@@ -33,31 +33,27 @@ module _ {A : Type 0} (x : A) (gs : List Ground) where
   answers answer v e d same = same ∙ sym (not-refused v e d)
 
 -- two verdicts, one after the other
-module _ {A : Type 0} (answer : A) (x y : Option ℕ) (v : Verdict) (e : verdictAs v ≡ refusal (ground 1 x ∷ [])) where
-  pub hands-on-first : (r : Refusal) → v ≡ verdict.Refused r → refused (refusedAs r) ≡ unlessRefused (refusal (ground 1 x ∷ ground 3 y ∷ [])) answer
+module _ {A : Type 0} (answer : A) {gs hs : List Ground} (turn : InTurn gs hs) (v : Verdict) (e : verdictAs v ≡ refusal gs) where
+  pub hands-on-first : (r : Refusal) → v ≡ verdict.Refused r → refused (refusedAs r) ≡ unlessRefused (refusal (gs ++ hs)) answer
   unfolding unlessRefused
-  hands-on-first r d = rw (table-first x y (refusedAs r) (sym e ∙ verdict-refused v r d))
+  hands-on-first r d = rw (refused-early turn v e r d)
 
-  module _ (d : v ≡ verdict.Good) (s : Verdict) (f : verdictAs s ≡ refusal (ground 3 y ∷ [])) where
-    pub hands-on-second : (r : Refusal) → s ≡ verdict.Refused r → refused (refusedAs r) ≡ unlessRefused (refusal (ground 1 x ∷ ground 3 y ∷ [])) answer
+  module _ (d : v ≡ verdict.Good) (s : Verdict) (f : verdictAs s ≡ refusal hs) where
+    pub hands-on-second : (r : Refusal) → s ≡ verdict.Refused r → refused (refusedAs r) ≡ unlessRefused (refusal (gs ++ hs)) answer
     unfolding unlessRefused
-    hands-on-second r g = rw (then-state x y (sym e ∙ verdict-good v d), sym f ∙ verdict-refused s r g)
+    hands-on-second r g = rw (left-to-others turn v e d, sym f ∙ verdict-refused s r g)
 
-    pub answers-second : (said : Outcome A) → s ≡ verdict.Good → said ≡ gives answer → said ≡ unlessRefused (refusal (ground 1 x ∷ ground 3 y ∷ [])) answer
+    pub answers-second : (said : Outcome A) → s ≡ verdict.Good → said ≡ gives answer → said ≡ unlessRefused (refusal (gs ++ hs)) answer
     unfolding unlessRefused
-    answers-second said g same = same ∙ sym (rw (then-state x y (sym e ∙ verdict-good v d), sym f ∙ verdict-good s g))
+    answers-second said g same = same ∙ sym (rw (left-to-others turn v e d, sym f ∙ verdict-good s g))
 
 -- a verdict, and then a ground of a later number
-module _ (x y z : Option ℕ) {k : ℕ} (late : Late k) (v : Verdict) (e : verdictAs v ≡ refusal (ground 1 x ∷ ground 3 y ∷ [])) where
-  pub refused-early : (r : Refusal) → v ≡ verdict.Refused r → refusal (ground 1 x ∷ ground 3 y ∷ ground k z ∷ []) ≡ some (refusedAs r)
-  refused-early r d = first-two x y z late (refusedAs r) (sym e ∙ verdict-refused v r d)
+module _ (x y z : Option ℕ) {k : ℕ} (late : Late k) (v : Verdict) (e : verdictAs v ≡ refusal (ground 1 x ∷ ground 3 y ∷ [])) (d : v ≡ verdict.Good) where
+  pub refused-late : (s : ℕ) → z ≡ some s → refusal (ground 1 x ∷ ground 3 y ∷ ground k z ∷ []) ≡ some (record { number = k; second = s })
+  refused-late s f = left-to-others (late-last x y z late) v e d ∙ late-alone late z ∙ ap (λ (u : Option ℕ). unlessBefore k u none) f
 
-  module _ (d : v ≡ verdict.Good) where
-    pub refused-late : (s : ℕ) → z ≡ some s → refusal (ground 1 x ∷ ground 3 y ∷ ground k z ∷ []) ≡ some (record { number = k; second = s })
-    refused-late s f = third-after x y z late (sym e ∙ verdict-good v d) ∙ ap (λ (u : Option ℕ). unlessBefore k u none) f
-
-    pub not-at-all : z ≡ none → refusal (ground 1 x ∷ ground 3 y ∷ ground k z ∷ []) ≡ none
-    not-at-all f = third-after x y z late (sym e ∙ verdict-good v d) ∙ ap (λ (u : Option ℕ). unlessBefore k u none) f
+  pub not-at-all : z ≡ none → refusal (ground 1 x ∷ ground 3 y ∷ ground k z ∷ []) ≡ none
+  not-at-all f = left-to-others (late-last x y z late) v e d ∙ late-alone late z ∙ ap (λ (u : Option ℕ). unlessBefore k u none) f
 
 pub few-partitions : (n : ℕ) (T B phase : List ℕ) → TableInRange n T B phase → n ≤ 16
 few-partitions n T B phase t = table-good n T B phase t .not-many

@@ -1,6 +1,6 @@
 -- What the tests of this crate's functions amount to, in the shape in which the proofs ask it.
-use Prim.Native.Nat.{ℕ, _-_, _≤_, _<_}
-use mathlib.Core.Path.{_≡_, sym, _∙_, ap, ap₂}
+use Prim.Native.Nat.{ℕ, _≤_, _<_}
+use mathlib.Core.Path.{_≡_, sym, _∙_, ap}
 use mathlib.Core.Bool.{Bool, true, false, not, _&&_}
 use mathlib.Core.List.{List, [], _∷_}
 use mathlib.Core.Option.{some, none}
@@ -13,7 +13,7 @@ use Rattle.rules.specs.Refusals.{badTable, badState, refusal, unlessBefore}
 use Rattle.rules.specs.declared.Refusal.the-variants.{BadPartition, BadPair}
 use Rattle.ranges.specs.Verdicts.{verdictAs}
 use Rattle.ranges.specs.declared.Verdict.the-variants as verdict
-use Rattle.laws.proofs.Tests.{within-low}
+use Rattle.laws.proofs.Tests.{off-left}
 
 pub too-low : (low high x : ℕ) → x < low → false ≡ within low high x
 too-low low high x l = sym (rw (lt-leb low x l))
@@ -21,30 +21,19 @@ too-low low high x l = sym (rw (lt-leb low x l))
 pub high-enough : (low high x : ℕ) → low ≤ x → leb x high ≡ within low high x
 high-enough low high x l = rw (le-leb low x l)
 
--- a partition's three tests, one after the other
-module _ (T B phase : ℕ) where
-  pub bad-period : (r : Bool) → r ≡ within 1 4096 T → not r ≡ true → false ≡ partitionInRange T B phase
-  unfolding partitionInRange
-  bad-period r e off = ap (λ (p : Bool). p && within 1 T B && within 0 (T - 1) phase) (sym (not-true r off) ∙ e)
+-- a test that was left at once, and one that was passed
+pub fell : (p r : Bool) → r ≡ p → not r ≡ true → p ≡ false
+fell p r e off = sym e ∙ not-true r off
 
-  pub bad-budget : (r s : Bool) → r ≡ within 1 4096 T → not r ≡ false → s ≡ within 1 T B → not s ≡ true → false ≡ partitionInRange T B phase
-  unfolding partitionInRange
-  bad-budget r s e on d off = ap₂ (λ (p q : Bool). p && q && within 0 (T - 1) phase) (sym (not-false _ on) ∙ e) (sym (not-true _ off) ∙ d)
+pub held : (p r : Bool) → r ≡ p → not r ≡ false → p ≡ true
+held p r e on = sym e ∙ not-false r on
 
-  pub last-is-phase : (r s t : Bool) → r ≡ within 1 4096 T → not r ≡ false → s ≡ within 1 T B → not s ≡ false → t ≡ within 0 (T - 1) phase
-      → t ≡ partitionInRange T B phase
-  unfolding partitionInRange
-  last-is-phase r s t e on d go f = f ∙ ap₂ (λ (p q : Bool). p && q && within 0 (T - 1) phase) (sym (not-false _ on) ∙ e) (sym (not-false _ go) ∙ d)
+-- tests one after the other: where one fails that decides, and where all before it pass the last one does
+pub fails-at : (p q : Bool) → p ≡ false → false ≡ (p && q)
+fails-at p q off = sym (off-left q off)
 
-pub some-period : (T : ℕ) (r : Bool) → r ≡ within 1 4096 T → not r ≡ false → 1 ≤ T
-some-period T r e on = within-low 1 4096 T (sym e ∙ not-false _ on)
-
--- a pair's two tests
-pub first-fails : (p q r : Bool) → r ≡ p → not r ≡ true → false ≡ (p && q)
-first-fails p q r e off = ap (λ (a : Bool). a && q) (sym (not-true r off) ∙ e)
-
-pub second-decides : (p q r s : Bool) → r ≡ p → not r ≡ false → s ≡ q → s ≡ (p && q)
-second-decides p q r s e on d = d ∙ ap (λ (a : Bool). a && q) (sym (not-false r on) ∙ e)
+pub last-decides : (p q r : Bool) → p ≡ true → r ≡ q → r ≡ (p && q)
+last-decides p q r on e = e ∙ ap (λ (a : Bool). a && q) (sym on)
 
 module _ (n : ℕ) (T B b o : List ℕ) (i : ℕ) where
   pub inside : (r : Bool) → i < n → r ≡ (within 0 (B ! i) (b ! i) && within 1 (T ! i) (o ! i)) → r ≡ pairInRange n T B b o i

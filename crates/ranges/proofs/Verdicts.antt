@@ -1,16 +1,20 @@
 -- Going on from a verdict: what was refused stays refused, and where there was nothing against it, what comes later decides.
 use Prim.Native.Nat.{ℕ, _≤_, _<_}
 use mathlib.Core.Path.{_≡_, refl, sym, _∙_, ap}
-use mathlib.Core.List.{List, [], _∷_}
+use mathlib.Core.Bool.{Bool}
+use mathlib.Core.List.{List, [], _∷_, _++_}
 use mathlib.Core.Option.{Option, some, none}
 use borrow.Author.Tests.{lt-ltb, le-ltb}
-use Rattle.basis.specs.Words.{orElse}
+use lib.Dec.{ltb}
+use Rattle.basis.specs.Words.{orElse, unless}
 use Rattle.rules.specs.Numbers.{firstBadPartition}
-use Rattle.rules.specs.Refusals.{Refused, refusedAs, ground, badTable, badTableOrIndex, refusal, unlessBefore, order, firstApplying}
+use Rattle.rules.specs.Refusals.{refusedAs, Ground, ground, refusal, unlessBefore}
 use Rattle.rules.specs.declared.Refusal.{Refusal}
 use Rattle.rules.specs.declared.Refusal.the-variants.{BadPartition}
-use Rattle.laws.proofs.Tests.{none-is-some, some-is-none}
+use Rattle.laws.proofs.Tests.{some-is-none}
+use Rattle.laws.proofs.Refusals.{Alone, table-alone, InTurn, refused-first, refused-then}
 use Rattle.ranges.specs.Verdicts.{verdictAs}
+use Rattle.ranges.specs.Promises.{JudgeTableIs, JudgeIndexIs}
 use Rattle.ranges.specs.declared.Verdict.{Verdict}
 use Rattle.ranges.specs.declared.Verdict.the-variants as verdict
 
@@ -23,95 +27,55 @@ pub verdict-good : (v : Verdict) → v ≡ verdict.Good → verdictAs v ≡ none
 unfolding verdictAs
 verdict-good v e = ap verdictAs e
 
--- a ground that stands before others: where it applies it is the refusal, else they decide
-module _ (number : ℕ) (later : Option Refused) where
-  pub refused-before : (x : Option ℕ) (r : Refused) → unlessBefore number x none ≡ some r → unlessBefore number x later ≡ some r
-  refused-before (some second) r e = e
-  refused-before none r e = none-is-some e
+-- some grounds are judged by a verdict, the others after it
+module _ {gs hs : List Ground} (turn : InTurn gs hs) (v : Verdict) (e : verdictAs v ≡ refusal gs) where
+  pub refused-early : (r : Refusal) → v ≡ verdict.Refused r → refusal (gs ++ hs) ≡ some (refusedAs r)
+  refused-early r d = refused-first turn (refusedAs r) (sym e ∙ verdict-refused v r d)
 
-  pub nothing-before : (x : Option ℕ) → unlessBefore number x none ≡ none → unlessBefore number x later ≡ later
-  nothing-before (some second) e = some-is-none e
-  nothing-before none e = refl
+  pub left-to-others : v ≡ verdict.Good → refusal (gs ++ hs) ≡ refusal hs
+  left-to-others d = refused-then turn (sym e ∙ verdict-good v d)
 
--- refusal 1, for whatever ground, comes before 3
-module _ (x y : Option ℕ) where
-  pub table-first : (r : Refused) → refusal (ground 1 x ∷ []) ≡ some r → refusal (ground 1 x ∷ ground 3 y ∷ []) ≡ some r
-  unfolding refusal
-  table-first r e = refused-before 1 _ x r e
+  pub judged-early : (r : Refusal) → v ≡ verdict.Refused r → verdictAs (verdict.Refused r) ≡ refusal (gs ++ hs)
+  judged-early r d = verdict-refused (verdict.Refused r) r refl ∙ sym (refused-early r d)
 
-  pub then-state : refusal (ground 1 x ∷ []) ≡ none → refusal (ground 1 x ∷ ground 3 y ∷ []) ≡ refusal (ground 3 y ∷ [])
-  unfolding refusal
-  then-state e = nothing-before 1 _ x e
+  pub judged-later : (next : Verdict) → v ≡ verdict.Good → verdictAs next ≡ refusal hs → verdictAs next ≡ refusal (gs ++ hs)
+  judged-later next d f = f ∙ sym (left-to-others d)
 
-  pub judged-table : (v : Verdict) (r : Refusal) → verdictAs v ≡ refusal (ground 1 x ∷ []) → v ≡ verdict.Refused r
-      → verdictAs (verdict.Refused r) ≡ refusal (ground 1 x ∷ ground 3 y ∷ [])
-  judged-table v r e d = verdict-refused (verdict.Refused r) r refl ∙ sym (table-first (refusedAs r) (sym e ∙ verdict-refused v r d))
-
-  pub judged-state : (v next : Verdict) → verdictAs v ≡ refusal (ground 1 x ∷ []) → v ≡ verdict.Good → verdictAs next ≡ refusal (ground 3 y ∷ [])
-      → verdictAs next ≡ refusal (ground 1 x ∷ ground 3 y ∷ [])
-  judged-state v next e d f = f ∙ sym (then-state (sym e ∙ verdict-good v d))
-
--- the numbers that come after 1 and 3
-pub data Late : ℕ → Type 0 where
-  four : Late 4
-  five : Late 5
-  six : Late 6
-  seven : Late 7
-
-module _ (x y z : Option ℕ) where
-  pub first-two : {k : ℕ} → Late k → (r : Refused) → refusal (ground 1 x ∷ ground 3 y ∷ []) ≡ some r → refusal (ground 1 x ∷ ground 3 y ∷ ground k z ∷ []) ≡ some r
-  unfolding refusal
-  first-two late r e = by-cases late x y e
+-- what is asked for and isn't there comes after the fields, and has their number
+module _ (k : ℕ) (alone : Alone k) (n h : ℕ) (fields : Option ℕ) (v : Verdict) (e : verdictAs v ≡ refusal (ground k fields ∷ [])) where
+  pub judged-fields : (r : Refusal) → v ≡ verdict.Refused r → verdictAs (verdict.Refused r) ≡ refusal (ground k (orElse fields (unless (ltb h n) h)) ∷ [])
+  judged-fields r d = verdict-refused (verdict.Refused r) r refl ∙ go fields (sym (sym e ∙ verdict-refused v r d))
     where
-      by-cases : {k : ℕ} → Late k → (x y : Option ℕ) → unlessBefore 1 x (unlessBefore 3 y none) ≡ some r → firstApplying order (ground 1 x ∷ ground 3 y ∷ ground k z ∷ []) ≡ some r
-      by-cases four (some i) y e = e
-      by-cases four none (some j) e = e
-      by-cases four none none e = none-is-some e
-      by-cases five (some i) y e = e
-      by-cases five none (some j) e = e
-      by-cases five none none e = none-is-some e
-      by-cases six (some i) y e = e
-      by-cases six none (some j) e = e
-      by-cases six none none e = none-is-some e
-      by-cases seven (some i) y e = e
-      by-cases seven none (some j) e = e
-      by-cases seven none none e = none-is-some e
+      go : (x : Option ℕ) → some (refusedAs r) ≡ refusal (ground k x ∷ []) → some (refusedAs r) ≡ refusal (ground k (orElse x (unless (ltb h n) h)) ∷ [])
+      go (some i) same = same
+      go none same = some-is-none (same ∙ alone none)
 
-  pub third-after : {k : ℕ} → Late k → refusal (ground 1 x ∷ ground 3 y ∷ []) ≡ none → refusal (ground 1 x ∷ ground 3 y ∷ ground k z ∷ []) ≡ unlessBefore k z none
-  unfolding refusal
-  third-after late e = by-cases late x y e
-    where
-      by-cases : {k : ℕ} → Late k → (x y : Option ℕ) → unlessBefore 1 x (unlessBefore 3 y none) ≡ none → firstApplying order (ground 1 x ∷ ground 3 y ∷ ground k z ∷ []) ≡ unlessBefore k z none
-      by-cases late (some i) y e = some-is-none e
-      by-cases late none (some j) e = some-is-none e
-      by-cases four none none e = refl
-      by-cases five none none e = refl
-      by-cases six none none e = refl
-      by-cases seven none none e = refl
+  module _ (d : v ≡ verdict.Good) where
+    no-fields : refusal (ground k (orElse fields (unless (ltb h n) h)) ∷ []) ≡ unlessBefore k (unless (ltb h n) h) none
+    no-fields = go fields (sym e ∙ verdict-good v d)
+      where
+        go : (x : Option ℕ) → refusal (ground k x ∷ []) ≡ none → refusal (ground k (orElse x (unless (ltb h n) h)) ∷ []) ≡ unlessBefore k (unless (ltb h n) h) none
+        go (some i) same = some-is-none (sym (alone (some i)) ∙ same)
+        go none same = alone (unless (ltb h n) h)
 
--- a partition that isn't there comes after the fields
-module _ (n : ℕ) (T B phase : List ℕ) (h : ℕ) where
-  index-after : (x : Option ℕ) → unlessBefore 1 x none ≡ none → (y : Option ℕ) → unlessBefore 1 (orElse x y) none ≡ unlessBefore 1 y none
-  index-after none e y = refl
-  index-after (some i) e y = some-is-none e
+    pub judged-absent : (r : Refusal) → refusedAs r ≡ record { number = k; second = h } → n ≤ h
+        → verdictAs (verdict.Refused r) ≡ refusal (ground k (orElse fields (unless (ltb h n) h)) ∷ [])
+    judged-absent r named l =
+        verdict-refused (verdict.Refused r) r refl
+        ∙ ap some named
+        ∙ sym (no-fields ∙ ap (λ (t : Bool). unlessBefore k (unless t h) none) (le-ltb h n l))
 
-  fields-first : (x : Option ℕ) (r : Refused) → unlessBefore 1 x none ≡ some r → (y : Option ℕ) → unlessBefore 1 (orElse x y) none ≡ some r
-  fields-first none r e y = none-is-some e
-  fields-first (some i) r e y = e
+    pub judged-there : h < n → verdictAs verdict.Good ≡ refusal (ground k (orElse fields (unless (ltb h n) h)) ∷ [])
+    judged-there l =
+        verdict-good verdict.Good refl ∙ sym (no-fields ∙ ap (λ (t : Bool). unlessBefore k (unless t h) none) (lt-ltb h n l))
 
-  pub judged-fields : (v : Verdict) (r : Refusal) → verdictAs v ≡ refusal (badTable n T B phase ∷ []) → v ≡ verdict.Refused r
-      → verdictAs (verdict.Refused r) ≡ refusal (badTableOrIndex n T B phase h ∷ [])
-  unfolding refusal
-  judged-fields v r e d =
-      verdict-refused (verdict.Refused r) r refl
-      ∙ sym (fields-first (firstBadPartition n T B phase) (refusedAs r) (sym e ∙ verdict-refused v r d) _)
+-- a partition that isn't there
+module _ (n : ℕ) (T B phase : List ℕ) (h : ℕ) (v : Verdict) (e : JudgeTableIs n T B phase v) where
+  pub table-refused : (r : Refusal) → v ≡ verdict.Refused r → JudgeIndexIs n T B phase h (verdict.Refused r)
+  table-refused = judged-fields 1 table-alone n h (firstBadPartition n T B phase) v e
 
-  pub judged-absent : (v : Verdict) → verdictAs v ≡ refusal (badTable n T B phase ∷ []) → v ≡ verdict.Good → n ≤ h
-      → verdictAs (verdict.Refused (BadPartition h)) ≡ refusal (badTableOrIndex n T B phase h ∷ [])
-  unfolding refusal verdictAs
-  judged-absent v e d l = sym (index-after (firstBadPartition n T B phase) (sym e ∙ verdict-good v d) _ ∙ rw (le-ltb h n l))
+  pub partition-absent : v ≡ verdict.Good → n ≤ h → JudgeIndexIs n T B phase h (verdict.Refused (BadPartition h))
+  partition-absent d = judged-absent 1 table-alone n h (firstBadPartition n T B phase) v e d (BadPartition h) refl
 
-  pub judged-there : (v : Verdict) → verdictAs v ≡ refusal (badTable n T B phase ∷ []) → v ≡ verdict.Good → h < n
-      → verdictAs verdict.Good ≡ refusal (badTableOrIndex n T B phase h ∷ [])
-  unfolding refusal verdictAs
-  judged-there v e d l = sym (index-after (firstBadPartition n T B phase) (sym e ∙ verdict-good v d) _ ∙ rw (lt-ltb h n l))
+  pub partition-there : v ≡ verdict.Good → h < n → JudgeIndexIs n T B phase h verdict.Good
+  partition-there = judged-there 1 table-alone n h (firstBadPartition n T B phase) v e

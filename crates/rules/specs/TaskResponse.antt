@@ -2,9 +2,11 @@
 use Prim.Native.Nat.{ℕ, suc, _+_, _-_, _*_}
 use mathlib.Core.List.{List, map}
 use mathlib.Core.Option.{Option, some, none}
+use mathlib.Core.Bool.{Bool}
+use mathlib.Core.Path.{_≡_}
 use lib.Dec.{ltb, eqb}
 use lib.ListN.{length, take, getD}
-use Rattle.basis.specs.Words.{_!_, ceil, total, those, settle}
+use Rattle.basis.specs.Words.{_!_, ceil, total, those, Least, settle}
 
 -- what the rule reads of a task
 pub record Work : Type 0 where
@@ -20,9 +22,18 @@ module _ (T B : ℕ) where
   unfoldable pub nextResponse : List Work → ℕ → ℕ → ℕ
   nextResponse above e r = load above e r + ceil (load above e r) B * (T - B)
 
-  -- "From r = e: .. until r stands still or T − B + r exceeds p.": each round adds a tick or more, so there are at most p
+  -- "until r stands still": the least r that does, over all r
+  unfoldable pub IsResponse : List Work → ℕ → ℕ → Type 0
+  IsResponse above e = Least (λ r. nextResponse above e r ≡ r)
+
+  -- "T − B + r exceeds p"
+  abbrev pub exceeds : ℕ → ℕ → Bool
+  exceeds p r = ltb p (T - B + r)
+
+  -- That r, unless the task is late. "From r = e: .. until r stands still or T − B + r exceeds p."
+  -- Each round adds a tick or more, so one more round than there are ticks in p is enough.
   unfoldable pub settledResponse : List Work → Work → Option ℕ
-  settledResponse above x = settle (suc (x .p)) (nextResponse above (x .e)) (λ r. ltb (x .p) (T - B + r)) (x .e)
+  settledResponse above x = settle (suc (x .p)) (nextResponse above (x .e)) (exceeds (x .p)) (x .e)
 
   -- "The answer is T − B + r, or 0 for late."
   abbrev pub ticksOrLate : Option ℕ → ℕ
@@ -33,9 +44,13 @@ module _ (T B : ℕ) where
   unfoldable pub taskResponse : List Work → ℕ → ℕ
   taskResponse own rank = ticksOrLate (settledResponse (take rank own) (getD own rank (record { p = 0; e = 0 })))
 
--- in a table of m tasks: those of partition h, "rank in table order"
+-- what the rule reads of task i of a table
+abbrev pub work : List ℕ → List ℕ → ℕ → Work
+work p e i = record { p = p ! i; e = e ! i }
+
+-- of the first m tasks of a table those of partition h, which "rank in table order"
 unfoldable pub ownTasks : ℕ → List ℕ → List ℕ → List ℕ → ℕ → List Work
-ownTasks m partition p e h = map (λ i. record { p = p ! i; e = e ! i }) (those m (λ i. eqb (partition ! i) h))
+ownTasks m partition p e h = map (work p e) (those m (λ i. eqb (partition ! i) h))
 
 -- the rank of task i in its partition, from 0
 unfoldable pub rankOf : List ℕ → ℕ → ℕ

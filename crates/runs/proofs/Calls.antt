@@ -18,8 +18,9 @@ use Rattle.ranges.specs.Outcome.{refused, gives}
 use Rattle.ranges.specs.Verdicts.{verdictAs}
 use Rattle.ranges.specs.declared.Verdict.{Verdict}
 use Rattle.ranges.specs.declared.Verdict.the-variants as verdict
-use Rattle.ranges.proofs.Verdicts.{verdict-refused, verdict-good, seven}
-use Rattle.ranges.proofs.Outcomes.{refused-early, refused-late, not-at-all, few-of-state}
+use Rattle.laws.proofs.Refusals.{seven, late-last}
+use Rattle.ranges.proofs.Verdicts.{verdict-refused, verdict-good, refused-early}
+use Rattle.ranges.proofs.Outcomes.{refused-late, not-at-all, few-of-state}
 use Rattle.draw.specs.Promises.{ChooseIs}
 use Rattle.draw.proofs.Calls.{chosen}
 use Rattle.draw.specs.declared.Decision.the-variants as decided
@@ -54,7 +55,7 @@ module _ (t : Table) (s : State) (v : Verdict) (judged : JudgedIs t s v) where
   step-refused word q d = no-step _ (pairs s) _ _ q (sym judged ∙ verdict-refused v q d)
 
   pub run-refused : (words buffer : List ℕ) (q : Refusal) → v ≡ verdict.Refused q → RunIs t s words buffer (record { state = s; verdict = verdict.Refused q }) buffer
-  run-refused words buffer q d = no-run _ (pairs s) buffer _ q (refused-early _ _ _ seven v judged q d)
+  run-refused words buffer q d = no-run _ (pairs s) buffer _ q (refused-early (late-last _ _ _ seven) v judged q d)
 
   module _ (good : v ≡ verdict.Good) where
     pub step-made : (word pick : ℕ) (f : State) → ChooseIs (t .count) (t .period) (t .budget) (s .b) (s .o) word pick

@@ -16,7 +16,7 @@ use Rattle.laws.proofs.Pick.{decision-allowed}
 use Rattle.ranges.specs.Outcome.{refused, unlessRefused}
 use Rattle.ranges.specs.Verdicts.{verdictAs}
 use Rattle.ranges.specs.declared.Verdict.the-variants as verdict
-use Rattle.ranges.proofs.Verdicts.{Late, four, first-two, third-after}
+use Rattle.laws.proofs.Refusals.{Late, four, late-last, late-alone, refused-first, refused-then}
 use Rattle.draw.specs.Promises.{DecideIs}
 use Rattle.draw.specs.declared.Decision.{Decision}
 use Rattle.scheduler.specs.States.{pairs}
@@ -32,8 +32,8 @@ no-third : (x y : Option ℕ) {k : ℕ} → Late k → refusal (ground 1 x ∷ g
 no-third x y {k} late = go (refusal (ground 1 x ∷ ground 3 y ∷ [])) refl
   where
     go : (r : Option Refused) → refusal (ground 1 x ∷ ground 3 y ∷ []) ≡ r → refusal (ground 1 x ∷ ground 3 y ∷ ground k none ∷ []) ≡ r
-    go none e = third-after x y none late e
-    go (some r) e = first-two x y none late r e
+    go none e = refused-then (late-last x y none late) e ∙ late-alone late none
+    go (some r) e = refused-first (late-last x y none late) r e
 
 -- a tick for what a word picks is not refused
 pub decision-ticks : (t : Table) (s : State) (word : ℕ) → TableInRange (t .count) (t .period) (t .budget) (t .phase) → StateInRange (t .count) (t .period) (t .budget) (s .b) (s .o)

@@ -19,11 +19,11 @@ use Rattle.rules.specs.Refusals.{Refused, refusedAs, Ground, badTable, notAdmit
 use Rattle.rules.specs.declared.Refusal.{Refusal}
 use Rattle.rules.specs.declared.Refusal.the-variants.{NotAdmitted, NotListed, NotActive}
 use Rattle.rules.specs.declared.Table.{Table}
-use Rattle.laws.proofs.Refusals.{no-ground}
+use Rattle.laws.proofs.Refusals.{no-ground, refused-first, refused-then, table-then-admission, five, six, late-last}
 use Rattle.ranges.specs.declared.Verdict.{Verdict}
 use Rattle.ranges.specs.declared.Verdict.the-variants as verdict
-use Rattle.ranges.proofs.Verdicts.{refused-before, nothing-before, five, six}
-use Rattle.ranges.proofs.Outcomes.{refused-early, refused-late, not-at-all, few-of-state, was-refused, was-given, few-partitions}
+use Rattle.ranges.proofs.Verdicts.{refused-early}
+use Rattle.ranges.proofs.Outcomes.{refused-late, not-at-all, few-of-state, was-refused, was-given, few-partitions}
 use Rattle.standing.specs.Answers.{testAs}
 use Rattle.standing.specs.Promises.{AdmissionIs}
 use Rattle.standing.specs.declared.Test.{Test}
@@ -46,13 +46,9 @@ module _ (gs : List Ground) (before after : Pairs) (r : Changed) where
 
 -- ---- a fresh start
 module _ (n : ℕ) (T B phase : List ℕ) where
-  table-refused : (q : Refused) → refusal (badTable n T B phase ∷ []) ≡ some q → refusal (badTable n T B phase ∷ notAdmitted n T B ∷ []) ≡ some q
-  unfolding refusal
-  table-refused q e = refused-before 1 _ (firstBadPartition n T B phase) q e
-
   by-admission : (a : Option ℕ) → refusal (badTable n T B phase ∷ []) ≡ none → a ≡ firstUnadmitted n T B → refusal (badTable n T B phase ∷ notAdmitted n T B ∷ []) ≡ unlessBefore 2 a none
   unfolding refusal
-  by-admission a e d = nothing-before 1 _ (firstBadPartition n T B phase) e ∙ ap (λ (u : Option ℕ). unlessBefore 2 u none) (sym d)
+  by-admission a e d = refused-then (table-then-admission (firstBadPartition n T B phase) (firstUnadmitted n T B)) e ∙ ap (λ (u : Option ℕ). unlessBefore 2 u none) (sym d)
 
   table-fine : refusal (badTable n T B phase ∷ []) ≡ none → n ≤ 16
   unfolding has
@@ -60,7 +56,7 @@ module _ (n : ℕ) (T B phase : List ℕ) where
 
 module _ (t : Table) (s : State) (x : Test) (admitted : AdmissionIs t x) (r : Changed) where
   pub fresh-refused : (q : Refusal) → x ≡ test.Refused q → changedAs r ≡ kept (pairs s) (refusedAs q) → FreshIs t s r
-  fresh-refused q e = unchanged _ (pairs s) _ r q (table-refused _ _ _ _ (refusedAs q) (was-refused _ _ _ (sym (ap testAs e) ∙ admitted)))
+  fresh-refused q e = unchanged _ (pairs s) _ r q (refused-first (table-then-admission _ _) (refusedAs q) (was-refused _ _ _ (sym (ap testAs e) ∙ admitted)))
 
   pub fresh-unadmitted : (h : ℕ) → x ≡ test.Fails h → changedAs r ≡ kept (pairs s) (refusedAs (NotAdmitted h)) → FreshIs t s r
   fresh-unadmitted h e =
@@ -79,10 +75,10 @@ fresh-few t x admitted e = table-fine (t .count) (t .period) (t .budget) (t .pha
 module _ (t : Table) (s : State) (v : Verdict) (judged : JudgedIs t s v) (r : Changed) where
   module _ (q : Refusal) (bad : v ≡ verdict.Refused q) (stays : changedAs r ≡ kept (pairs s) (refusedAs q)) where
     pub tick-refused : (pick : ℕ) → TickIs t s pick r
-    tick-refused pick = unchanged _ (pairs s) _ r q (refused-early _ _ _ five v judged q bad) stays
+    tick-refused pick = unchanged _ (pairs s) _ r q (refused-early (late-last _ _ _ five) v judged q bad) stays
 
     pub release-refused : (i : ℕ) → ReleaseIs t s i r
-    release-refused i = unchanged _ (pairs s) _ r q (refused-early _ _ _ six v judged q bad) stays
+    release-refused i = unchanged _ (pairs s) _ r q (refused-early (late-last _ _ _ six) v judged q bad) stays
 
   module _ (good : v ≡ verdict.Good) where
     -- the pick is a member, or not

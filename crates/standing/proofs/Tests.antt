@@ -15,6 +15,7 @@ use Rattle.rules.specs.Refusals.{ground, badTable, badTableOrIndex, refusal}
 use Rattle.laws.proofs.Places.{first-same}
 use Rattle.laws.proofs.Numbers.{table-good}
 use Rattle.laws.proofs.Admission.{admission-is-busy}
+use Rattle.laws.proofs.Refusals.{table-then-state}
 use Rattle.ranges.specs.Outcome.{Outcome, gives, unlessRefused}
 use Rattle.ranges.specs.Verdicts.{verdictAs}
 use Rattle.ranges.specs.declared.Verdict.{Verdict}
@@ -71,7 +72,7 @@ module _ (n : ℕ) (T B phase : List ℕ) where
       pub tested-busy : (b o : List ℕ) (w : ℕ) (y : Option ℕ) (s : Verdict) → verdictAs s ≡ refusal (ground 3 y ∷ []) → s ≡ Good → BusyLengthIs T B b o h w x
           → answer ≡ unlessRefused (refusal (badTableOrIndex n T B phase h ∷ ground 3 y ∷ [])) (busyTest T B b o h w)
       tested-busy b o w y s f g length =
-          answers-second (busyTest T B b o h w) _ y v e d s f answer g (same ∙ ap gives (spanned b o w x length))
+          answers-second (busyTest T B b o h w) (table-then-state _ y) v e d s f answer g (same ∙ ap gives (spanned b o w x length))
 
 -- a span as an answer
 pub answered-within : (x : Span) (W : ℕ) → x ≡ Within W → gives (some W) ≡ gives (spanAs x)

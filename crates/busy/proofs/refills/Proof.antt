@@ -1,7 +1,7 @@
 use Prim.Native.Nat.{_-_, _≤_}
 use borrow.Author.Needs.{needs}
 use Rattle.rules.specs.BusyLength.{refill}
-use Rattle.busy.proofs.Sums.{SumTo, sum-begins, sum-goes-on, sum-ends}
+use Rattle.laws.proofs.Reckoning.{SumTo, sum-begins, sum-goes-on, sum-ends}
 use Rattle.busy.proofs.refills.Statement.{statement}
 use Rattle.busy.proofs.refills.Tie as tie
 
@@ -49,7 +49,7 @@ unfolding refill
 loop-again c = search (needs, sum-goes-on)
 
 returns : tie.Need-returns Inv-loop μ-loop
-returns c = search (needs, sum-ends 8589934592)
+returns c = search (needs, sum-ends 8589934592 16)
 
 pub refills-spec : {M : Type 1} → statement M
 refills-spec =

@@ -1,7 +1,7 @@
 use Prim.Native.Nat.{_-_, _≤_}
 use borrow.Author.Needs.{needs}
 use Rattle.basis.specs.Words.{_!_}
-use Rattle.busy.proofs.Sums.{SumTo, sum-begins, sum-goes-on, sum-ends}
+use Rattle.laws.proofs.Reckoning.{SumTo, sum-begins, sum-goes-on, sum-ends}
 use Rattle.busy.proofs.waiting.Statement.{statement}
 use Rattle.busy.proofs.waiting.Tie as tie
 
@@ -36,7 +36,7 @@ loop-again : tie.Need-loop-again Inv-loop μ-loop
 loop-again c = search (needs, sum-goes-on)
 
 returns : tie.Need-returns Inv-loop μ-loop
-returns c = search (needs, sum-ends 65536)
+returns c = search (needs, sum-ends 65536 16)
 
 pub waiting-spec : {M : Type 1} → statement M
 waiting-spec =

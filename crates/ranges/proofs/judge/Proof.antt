@@ -1,5 +1,6 @@
 use borrow.Author.Needs.{needs}
-use Rattle.ranges.proofs.Verdicts.{judged-table, judged-state}
+use Rattle.laws.proofs.Refusals.{table-then-state}
+use Rattle.ranges.proofs.Verdicts.{judged-early, judged-later}
 use Rattle.ranges.proofs.judge.Statement.{statement}
 use Rattle.ranges.proofs.judge.Tie as tie
 
@@ -10,7 +11,7 @@ enum-known-table : tie.Need-enum-known-table
 enum-known-table c = search needs
 
 returns : tie.Need-returns
-returns c = judged-table _ _ _ _ (c .before .before .before .judge-table .ensures) (c .before .table .given .1)
+returns c = judged-early (table-then-state _ _) _ (c .before .before .before .judge-table .ensures) _ (c .before .table .given .1)
 
 enum-told : tie.Need-enum-told
 enum-told c = search needs
@@ -19,7 +20,7 @@ judge-state-requires : tie.Need-judge-state-requires
 judge-state-requires c κs = search needs
 
 returns-2 : tie.Need-returns-2
-returns-2 c = judged-state _ _ _ _ (c .before .before .before .judge-table .ensures) (c .before .enum-told .given .1) (c .judge-state .ensures)
+returns-2 c = judged-later (table-then-state _ _) _ (c .before .before .before .judge-table .ensures) _ (c .before .enum-told .given .1) (c .judge-state .ensures)
 
 pub judge-spec : {M : Type 1} → statement M
 judge-spec =

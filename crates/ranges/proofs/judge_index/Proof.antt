@@ -1,5 +1,5 @@
 use borrow.Author.Needs.{needs}
-use Rattle.ranges.proofs.Verdicts.{judged-fields, judged-absent, judged-there}
+use Rattle.ranges.proofs.Verdicts.{table-refused, partition-absent, partition-there}
 use Rattle.ranges.proofs.judge_index.Statement.{statement}
 use Rattle.ranges.proofs.judge_index.Tie as tie
 
@@ -10,16 +10,16 @@ enum-known-table : tie.Need-enum-known-table
 enum-known-table c = search needs
 
 returns : tie.Need-returns
-returns c = judged-fields _ _ _ _ _ _ _ (c .before .before .before .judge-table .ensures) (c .before .table .given .1)
+returns c = table-refused _ _ _ _ _ _ (c .before .before .before .judge-table .ensures) _ (c .before .table .given .1)
 
 enum-told : tie.Need-enum-told
 enum-told c = search needs
 
 returns-2 : tie.Need-returns-2
-returns-2 c = judged-absent _ _ _ _ _ _ (c .before .before .before .judge-table .ensures) (c .before .enum-told .given .1) (c .if1 .taken)
+returns-2 c = partition-absent _ _ _ _ _ _ (c .before .before .before .judge-table .ensures) (c .before .enum-told .given .1) (c .if1 .taken)
 
 returns-3 : tie.Need-returns-3
-returns-3 c = judged-there _ _ _ _ _ _ (c .before .before .before .judge-table .ensures) (c .before .enum-told .given .1) (c .if1 .left)
+returns-3 c = partition-there _ _ _ _ _ _ (c .before .before .before .judge-table .ensures) (c .before .enum-told .given .1) (c .if1 .left)
 
 pub judge-index-spec : {M : Type 1} → statement M
 judge-index-spec =

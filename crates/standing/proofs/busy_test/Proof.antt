@@ -1,4 +1,5 @@
 use borrow.Author.Needs.{needs}
+use Rattle.laws.proofs.Refusals.{table-then-state}
 use Rattle.ranges.proofs.Outcomes.{hands-on-first, hands-on-second}
 use Rattle.standing.proofs.Tests.{tested-busy}
 use Rattle.standing.proofs.busy_test.Statement.{statement}
@@ -11,7 +12,7 @@ enum-known-table : tie.Need-enum-known-table
 enum-known-table c = search needs
 
 returns : tie.Need-returns
-returns c = hands-on-first _ _ _ _ (c .before .before .before .judge-index .ensures) _ (c .before .table .given .1)
+returns c = hands-on-first _ (table-then-state _ _) _ (c .before .before .before .judge-index .ensures) _ (c .before .table .given .1)
 
 enum-told : tie.Need-enum-told
 enum-told c = search needs
@@ -23,7 +24,7 @@ enum-known-state : tie.Need-enum-known-state
 enum-known-state c = search needs
 
 returns-2 : tie.Need-returns-2
-returns-2 c = hands-on-second _ _ _ _ (c .before .before .before .before .before .before .before .before .before .judge-index .ensures) (c .before .before .before .before .before .before .before .enum-told .given .1) _ (c .before .before .before .judge-state .ensures) _ (c .before .state .given .1)
+returns-2 c = hands-on-second _ (table-then-state _ _) _ (c .before .before .before .before .before .before .before .before .before .judge-index .ensures) (c .before .before .before .before .before .before .before .enum-told .given .1) _ (c .before .before .before .judge-state .ensures) _ (c .before .state .given .1)
 
 enum-told-2 : tie.Need-enum-told-2
 enum-told-2 c = search needs

@@ -5,7 +5,7 @@ use native.Mathlib.Nat.{le-antisymm, mul-le-mul-right}
 use native.Mathlib.Numerals.{add-one}
 use native.Mathlib.Omega.{arith}
 use Rattle.basis.specs.Words.{sumBelow}
-use Rattle.busy.specs.Inner.{Reckoned}
+use Rattle.basis.specs.Reckoned.{Reckoned}
 
 pub record SumTo (limit : ℕ) (f : ℕ → ℕ) (j sum : ℕ) : Type 0 where
   pub is : sum ≡ sumBelow j f
@@ -23,12 +23,13 @@ module _ (limit : ℕ) (f : ℕ → ℕ) where
       let small = next .small in
       record { is = rw (add-one j, before .is, next .is); most = rw (add-one j) (omega arith) }
 
-  pub sum-ends : (j sum top : ℕ) → SumTo limit f j sum → top ≤ j → j ≤ top → top ≤ 16 → Reckoned (16 * limit + 1) (sumBelow top f) sum
-  sum-ends j sum top before l k most =
-      record {
-        is = before .is ∙ (λ i. sumBelow (le-antisymm k l i) f);
-        small = bounded top (le-antisymm k l) most (before .most);
-      }
-    where
-      bounded : (m : ℕ) → j ≡ m → m ≤ 16 → sum ≤ j * limit → sum < 16 * limit + 1
-      bounded m e few s = let all-of-them = mul-le-mul-right limit few in let same : j * limit ≡ m * limit = rw e in omega arith
+-- the sum of a few numbers below a limit
+pub sum-ends : (limit few : ℕ) (f : ℕ → ℕ) (j sum top : ℕ) → SumTo limit f j sum → top ≤ j → j ≤ top → top ≤ few → Reckoned (few * limit + 1) (sumBelow top f) sum
+sum-ends limit few f j sum top before l k most =
+    record {
+      is = before .is ∙ (λ i. sumBelow (le-antisymm k l i) f);
+      small = bounded top (le-antisymm k l) most (before .most);
+    }
+  where
+    bounded : (m : ℕ) → j ≡ m → m ≤ few → sum ≤ j * limit → sum < few * limit + 1
+    bounded m e up-to s = let all-of-them = mul-le-mul-right limit up-to in let same : j * limit ≡ m * limit = rw e in omega arith

@@ -1,0 +1,220 @@
+-- The response of a task: the least r that stands still, late exactly when none does in time, and from its own partition's numbers alone.
+use Prim.Native.Nat.{ℕ, suc, _+_, _-_, _*_, _≤_, _<_}
+use mathlib.Core.Path.{_≡_, refl, sym, _∙_, ap, ap₂}
+use mathlib.Core.Bool.{Bool, true, cond}
+use mathlib.Core.List.{List, [], _∷_, _++_, map, map-append, map-map}
+use mathlib.Core.Logic.{_↔_}
+use mathlib.Core.Option.{Option, some, none}
+use native.Mathlib.Nat.{le-refl, le-trans, le-antisymm, le-of-eq, lt-trans, add-le-add, mul-le-mul-right}
+use native.Mathlib.Omega.{arith}
+use borrow.Author.Tests.{ltb-false, le-ltb, eqb-true, eq-eqb}
+use lib.Dec.{eqb}
+use lib.ListN.{length, take, getD, length-map}
+use lib.Seq.{take-at, getD-append-seam}
+use Rattle.basis.specs.Words.{_!_, ceil, sumBelow, total, those}
+use Rattle.laws.proofs.Tests.{some-is-none}
+use Rattle.laws.proofs.Ceil.{ceil-mono}
+use Rattle.laws.proofs.Totals.{total-mono, total-those}
+use Rattle.laws.proofs.Places.{those-same, those-split, map-those-same}
+use Rattle.laws.proofs.Settle.{Rising, Bound, settle-some, settle-finds}
+use Rattle.laws.proofs.Numbers.{tasks-good}
+use Rattle.rules.specs.Numbers.{TasksInRange}
+use Rattle.rules.specs.TaskResponse.{Work, load, nextResponse, IsResponse, exceeds, settledResponse, ticksOrLate, taskResponse, work, ownTasks, rankOf, responseOfTask}
+
+-- ---- the repetition
+module _ (T B : ℕ) (above : List Work) where
+  load-rising : (e : ℕ) → Rising (load T B above e)
+  unfolding load
+  load-rising e r s l =
+      add-le-add (le-refl e) (total-mono above _ _ (λ (x : Work). mul-le-mul-right (x .e) (ceil-mono (T - B + r) (T - B + s) (x .p) (omega arith))))
+
+  -- more ticks, more work from the ranks above
+  pub response-rising : (e : ℕ) → Rising (nextResponse T B above e)
+  unfolding nextResponse
+  response-rising e r s l =
+      let more = load-rising e r s l in
+      add-le-add more (mul-le-mul-right (T - B) (ceil-mono (load T B above e r) (load T B above e s) B more))
+
+  -- and never less than its own
+  pub cost-least : (e r : ℕ) → e ≤ nextResponse T B above e r
+  unfolding nextResponse load
+  cost-least e r = omega arith
+
+module _ (T B : ℕ) where
+  in-time : (p : ℕ) → Bound (exceeds T B p)
+  in-time p r s l near = le-ltb p (T - B + r) (le-trans (add-le-add (le-refl (T - B)) l) (ltb-false p (T - B + s) near))
+
+  module _ (above : List Work) (x : Work) where
+    -- what it means that the task isn't late
+    pub record OnTime (r : ℕ) : Type 0 where
+      pub least : IsResponse T B above (x .e) r
+      pub in-gap : T - B + r ≤ x .p
+
+    on-time : (r : ℕ) → settledResponse T B above x ≡ some r → OnTime r
+    unfolding settledResponse IsResponse
+    on-time r found =
+        let s = settle-some (nextResponse T B above (x .e)) _ (response-rising T B above (x .e)) _ _ r found in
+        record {
+          least = (s .still, λ z e. s .least z (le-trans (cost-least T B above (x .e) z) (le-of-eq e)) (le-of-eq e));
+          in-gap = ltb-false (x .p) (T - B + r) (s .bounded);
+        }
+
+    stands-still : (r : ℕ) → nextResponse T B above (x .e) r ≡ r → T - B + r ≤ x .p → (s : ℕ) × (settledResponse T B above x ≡ some s)
+    unfolding settledResponse
+    stands-still r still l =
+        settle-finds (nextResponse T B above (x .e)) (exceeds T B (x .p)) (response-rising T B above (x .e)) (in-time (x .p)) (suc (x .p)) (x .e) r
+        (cost-least T B above (x .e) (x .e)) (le-trans (cost-least T B above (x .e) r) (le-of-eq still)) (le-of-eq still) (le-ltb (x .p) (T - B + r) l) (omega arith)
+
+    on-time-settles : (r : ℕ) → OnTime r → settledResponse T B above x ≡ some r
+    unfolding IsResponse
+    on-time-settles r o =
+        let answer = stands-still r (o .least .0) (o .in-gap) in
+        let s = on-time (answer .0) (answer .1) in
+        answer .1 ∙ ap some (le-antisymm (s .least .1 r (o .least .0)) (o .least .1 (answer .0) (s .least .0)))
+
+    -- the repetition finds the least r that stands still, if it is in time
+    pub response-exactly : (r : ℕ) → (settledResponse T B above x ≡ some r) ↔ OnTime r
+    response-exactly r = (on-time r, on-time-settles r)
+
+    -- late exactly when none that stands still is in time
+    pub late-exactly : (settledResponse T B above x ≡ none) ↔ ((r : ℕ) → nextResponse T B above (x .e) r ≡ r → T - B + r ≤ x .p → ⊥)
+    unfolding IsResponse
+    late-exactly =
+        (
+          λ late r still l. let answer = stands-still r still l in some-is-none (sym (answer .1) ∙ late),
+          λ never. by (settledResponse T B above x) refl never,
+        )
+      where
+        by : (a : Option ℕ) → settledResponse T B above x ≡ a → ((r : ℕ) → nextResponse T B above (x .e) r ≡ r → T - B + r ≤ x .p → ⊥) → settledResponse T B above x ≡ none
+        by none e never = e
+        by (some r) e never = let o = on-time r e in absurd (never r (o .least .0) (o .in-gap))
+
+    -- "A true response is never 0."
+    pub never-zero : 1 ≤ x .e → (r : ℕ) → settledResponse T B above x ≡ some r → 1 ≤ T - B + r
+    unfolding IsResponse
+    never-zero some-cost r found =
+        let still : nextResponse T B above (x .e) r ≡ r = on-time r found .least .0 in
+        let own = cost-least T B above (x .e) r in
+        omega arith
+
+    -- so 0 says late, and nothing else does
+    pub zero-is-late : 1 ≤ x .e → (ticksOrLate T B (settledResponse T B above x) ≡ 0) ↔ (settledResponse T B above x ≡ none)
+    zero-is-late some-cost = (λ zero. by (settledResponse T B above x) refl zero, λ late. ap (ticksOrLate T B) late)
+      where
+        by : (a : Option ℕ) → settledResponse T B above x ≡ a → ticksOrLate T B a ≡ 0 → settledResponse T B above x ≡ none
+        by none e zero = e
+        by (some r) e zero = let more = never-zero some-cost r e in absurd (omega arith)
+
+-- ---- the tasks of a table
+module _ (part p e : List ℕ) where
+  -- a task stands among its partition's own, after those before it in the table
+  own-split : (m i : ℕ) → i < m → (later : List Work) × (ownTasks m part p e (part ! i) ≡ ownTasks i part p e (part ! i) ++ work p e i ∷ later)
+  unfolding ownTasks
+  own-split m i l =
+      let split = those-split i m (λ j. eqb (part ! j) (part ! i)) l (eq-eqb (part ! i) (part ! i) refl) in
+      (map (work p e) (split .0), ap (map (work p e)) (split .1) ∙ map-append (work p e) (those i (λ j. eqb (part ! j) (part ! i))) (i ∷ split .0))
+
+  pub rank-is : (i : ℕ) → length (ownTasks i part p e (part ! i)) ≡ rankOf part i
+  unfolding ownTasks rankOf
+  rank-is i = length-map (those i (λ j. eqb (part ! j) (part ! i))) (work p e)
+
+  -- the response is that of the task itself, below those before it
+  pub response-in-place : (T B : List ℕ) (m i : ℕ) → i < m
+      → responseOfTask T B m part p e i
+      ≡ ticksOrLate (T ! (part ! i)) (B ! (part ! i)) (settledResponse (T ! (part ! i)) (B ! (part ! i)) (ownTasks i part p e (part ! i)) (work p e i))
+  unfolding responseOfTask taskResponse
+  response-in-place T B m i l =
+      ap₂ (λ (above : List Work) (x : Work). ticksOrLate (T ! (part ! i)) (B ! (part ! i)) (settledResponse (T ! (part ! i)) (B ! (part ! i)) above x)) ranked own
+    where
+      before : List Work
+      before = ownTasks i part p e (part ! i)
+
+      split : (later : List Work) × (ownTasks m part p e (part ! i) ≡ before ++ work p e i ∷ later)
+      split = own-split m i l
+
+      ranked : take (rankOf part i) (ownTasks m part p e (part ! i)) ≡ before
+      ranked = ap (take (rankOf part i)) (split .1) ∙ take-at before _ (rankOf part i) (rank-is i)
+
+      own : getD (ownTasks m part p e (part ! i)) (rankOf part i) (record { p = 0; e = 0 }) ≡ work p e i
+      own =
+          ap₂ (λ (xs : List Work) (k : ℕ). getD xs k (record { p = 0; e = 0 })) (split .1) (sym (rank-is i))
+          ∙ getD-append-seam before (work p e i) (split .0) (record { p = 0; e = 0 })
+
+  -- what the ranks above ask for, task by task
+  pub load-is : (T B i h c r : ℕ) → load T B (ownTasks i part p e h) c r ≡ c + sumBelow i (λ j. cond (eqb (part ! j) h) (ceil (T - B + r) (p ! j) * e ! j) 0)
+  unfolding load ownTasks
+  load-is T B i h c r =
+      ap (λ s. c + s)
+      (ap total (map-map (λ (x : Work). ceil (T - B + r) (x .p) * x .e) (work p e) (those i (λ j. eqb (part ! j) h)))
+      ∙ total-those (λ j. ceil (T - B + r) (p ! j) * e ! j) i (λ j. eqb (part ! j) h))
+
+-- ---- the answer of a task in range
+module _ (n m : ℕ) (T B part p e : List ℕ) (tasks : TasksInRange n m part p e) (i : ℕ) (l : i < m) where
+  -- T and B of its partition, and the tasks above it
+  abbrev pub itsT : ℕ
+  itsT = T ! (part ! i)
+
+  abbrev pub itsB : ℕ
+  itsB = B ! (part ! i)
+
+  abbrev pub itsAbove : List Work
+  itsAbove = ownTasks i part p e (part ! i)
+
+  some-cost : 1 ≤ e ! i
+  some-cost = tasks-good n m part p e tasks .each i l .cost
+
+  -- an answer that isn't 0 is T − B + r, for the least r that stands still, and is in time
+  pub true-response : (R : ℕ) → responseOfTask T B m part p e i ≡ R → (R ≡ 0 → ⊥) → (r : ℕ) × (R ≡ itsT - itsB + r) × OnTime itsT itsB itsAbove (work p e i) r
+  true-response R is some-ticks = by (settledResponse itsT itsB itsAbove (work p e i)) refl (sym (response-in-place part p e T B m i l) ∙ is)
+    where
+      by : (a : Option ℕ) → settledResponse itsT itsB itsAbove (work p e i) ≡ a → ticksOrLate itsT itsB a ≡ R
+          → (r : ℕ) × (R ≡ itsT - itsB + r) × OnTime itsT itsB itsAbove (work p e i) r
+      by none d same = absurd (some-ticks (sym same))
+      by (some r) d same = (r, sym same, response-exactly itsT itsB itsAbove (work p e i) r .0 d)
+
+  -- and 0 says that no r that stands still is in time
+  pub late-response : (responseOfTask T B m part p e i ≡ 0) ↔ ((r : ℕ) → nextResponse itsT itsB itsAbove (e ! i) r ≡ r → itsT - itsB + r ≤ p ! i → ⊥)
+  late-response =
+      (
+        λ zero. late-exactly itsT itsB itsAbove (work p e i) .0 (zero-is-late itsT itsB itsAbove (work p e i) some-cost .0 (sym in-place ∙ zero)),
+        λ never. in-place ∙ zero-is-late itsT itsB itsAbove (work p e i) some-cost .1 (late-exactly itsT itsB itsAbove (work p e i) .1 never),
+      )
+    where
+      in-place : responseOfTask T B m part p e i ≡ ticksOrLate itsT itsB (settledResponse itsT itsB itsAbove (work p e i))
+      in-place = response-in-place part p e T B m i l
+
+-- ---- a partition's own numbers alone
+-- Two tables of any size, each with tasks: where a task's partition has the same T, B and tasks in both, and the task the same rank, it has the same response.
+pub own-alone : (T B : List ℕ) (m : ℕ) (part p e : List ℕ) (i : ℕ) (T′ B′ : List ℕ) (m′ : ℕ) (part′ p′ e′ : List ℕ) (i′ : ℕ)
+    → T ! (part ! i) ≡ T′ ! (part′ ! i′) → B ! (part ! i) ≡ B′ ! (part′ ! i′)
+    → ownTasks m part p e (part ! i) ≡ ownTasks m′ part′ p′ e′ (part′ ! i′) → rankOf part i ≡ rankOf part′ i′
+    → responseOfTask T B m part p e i ≡ responseOfTask T′ B′ m′ part′ p′ e′ i′
+unfolding responseOfTask
+own-alone T B m part p e i T′ B′ m′ part′ p′ e′ i′ t u own rank = rw (t, u, own, rank)
+
+-- The tasks of partition h have the same entries in two tables: whatever the other entries are, so are its responses.
+module _ (h m : ℕ) (part p e part′ p′ e′ : List ℕ)
+    (mine : (j : ℕ) → j < m → eqb (part ! j) h ≡ eqb (part′ ! j) h)
+    (gaps : (j : ℕ) → j < m → part ! j ≡ h → p ! j ≡ p′ ! j)
+    (costs : (j : ℕ) → j < m → part ! j ≡ h → e ! j ≡ e′ ! j) where
+
+  own-same : (k : ℕ) → k ≤ m → ownTasks k part p e h ≡ ownTasks k part′ p′ e′ h
+  unfolding ownTasks
+  own-same k l =
+      map-those-same {A = Work} k (λ j. eqb (part ! j) h) _ _ (λ j i on. same j (omega arith) (eqb-true (part ! j) h on))
+      ∙ ap (map (work p′ e′)) (those-same k _ _ (λ j i. mine j (omega arith)))
+    where
+      same : (j : ℕ) → j < m → part ! j ≡ h → work p e j ≡ work p′ e′ j
+      same j i on = ap₂ (λ (a c : ℕ). record { p = a; e = c }) (gaps j i on) (costs j i on)
+
+  pub others-apart : (T B T′ B′ : List ℕ) → T ! h ≡ T′ ! h → B ! h ≡ B′ ! h → (i : ℕ) → i < m → part ! i ≡ h
+      → responseOfTask T B m part p e i ≡ responseOfTask T′ B′ m part′ p′ e′ i
+  others-apart T B T′ B′ t u i l on =
+      own-alone T B m part p e i T′ B′ m part′ p′ e′ i
+      (ap (λ k. T ! k) on ∙ t ∙ ap (λ k. T′ ! k) (sym there))
+      (ap (λ k. B ! k) on ∙ u ∙ ap (λ k. B′ ! k) (sym there))
+      (ap (ownTasks m part p e) on ∙ own-same m (le-refl m) ∙ ap (ownTasks m part′ p′ e′) (sym there))
+      (sym (rank-is part p e i) ∙ ap length (ap (ownTasks i part p e) on ∙ own-same i (omega arith) ∙ ap (ownTasks i part′ p′ e′) (sym there)) ∙ rank-is part′ p′ e′ i)
+    where
+      there : part′ ! i ≡ h
+      there = eqb-true (part′ ! i) h (sym (mine i l) ∙ eq-eqb (part ! i) h on)

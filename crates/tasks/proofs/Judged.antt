@@ -1,0 +1,73 @@
+-- From one task in range to all of them, and to one that is asked for.
+use Prim.Native.Nat.{ℕ, _≤_, _<_}
+use mathlib.Core.Path.{_≡_, refl, sym, _∙_}
+use mathlib.Core.Bool.{Bool, true, false, not, _&&_}
+use mathlib.Core.List.{List, [], _∷_}
+use mathlib.Core.Option.{some, none}
+use native.Mathlib.Omega.{arith}
+use borrow.Author.Tests.{le-leb, lt-ltb, le-ltb}
+use lib.Dec.{leb, ltb}
+use Rattle.basis.specs.Words.{_!_, within, first}
+use Rattle.rules.specs.Numbers.{taskInRange, firstBadTask}
+use Rattle.rules.specs.Refusals.{badTasks, refusal}
+use Rattle.rules.specs.declared.Refusal.{Refusal}
+use Rattle.rules.specs.declared.Refusal.the-variants.{BadTask}
+use Rattle.laws.proofs.Tests.{is-within}
+use Rattle.laws.proofs.Refusals.{tasks-alone}
+use Rattle.ranges.specs.Verdicts.{verdictAs}
+use Rattle.ranges.specs.declared.Verdict.{Verdict}
+use Rattle.ranges.specs.declared.Verdict.the-variants as verdict
+use Rattle.ranges.proofs.Verdicts.{judged-fields, judged-absent, judged-there}
+use Rattle.tasks.specs.Promises.{JudgeTasksIs, JudgeTaskIs}
+
+-- ---- the tests of one task
+module _ (n partition p e : ℕ) where
+  pub no-partition : n ≤ partition → false ≡ taskInRange n partition p e
+  unfolding taskInRange
+  no-partition l = sym (rw (le-ltb partition n l))
+
+  module _ (there : partition < n) where
+    pub no-gap : p ≡ 0 → false ≡ taskInRange n partition p e
+    unfolding taskInRange
+    no-gap none-there = sym (rw (lt-ltb partition n there, none-there))
+
+    module _ (gap : p ≡ 0 → ⊥) (fits : p < 65536) where
+      by-cost : taskInRange n partition p e ≡ within 1 p e
+      unfolding taskInRange
+      by-cost = rw (lt-ltb partition n there, is-within {low = 1} {high = 65535} {x = p} (omega arith) (omega arith))
+
+      pub no-cost : e ≡ 0 → false ≡ taskInRange n partition p e
+      no-cost free = sym (by-cost ∙ rw free)
+
+      pub cost-decides : (e ≡ 0 → ⊥) → leb e p ≡ taskInRange n partition p e
+      cost-decides costs = sym (by-cost ∙ rw (le-leb 1 e (omega arith)))
+
+-- ---- all of them
+module _ (n m : ℕ) (part p e : List ℕ) where
+  -- the test of one of them
+  abbrev pub task : ℕ → Bool
+  task i = taskInRange n (part ! i) (p ! i) (e ! i)
+
+  pub too-many-tasks : 64 < m → verdictAs (verdict.Refused (BadTask 64)) ≡ refusal (badTasks n m part p e ∷ [])
+  unfolding verdictAs refusal firstBadTask
+  too-many-tasks l = rw (lt-ltb 64 m l)
+
+  module _ (few : m ≤ 64) where
+    pub bad-tasks : (i : ℕ) → first m (λ j. not (task j)) ≡ some i → verdictAs (verdict.Refused (BadTask i)) ≡ refusal (badTasks n m part p e ∷ [])
+    unfolding verdictAs refusal firstBadTask
+    bad-tasks i found = rw (le-ltb 64 m few, found)
+
+    pub good-tasks : first m (λ j. not (task j)) ≡ none → verdictAs verdict.Good ≡ refusal (badTasks n m part p e ∷ [])
+    unfolding verdictAs refusal firstBadTask
+    good-tasks none-bad = rw (le-ltb 64 m few, none-bad)
+
+-- ---- and one that is asked for
+module _ (n m : ℕ) (part p e : List ℕ) (i : ℕ) (v : Verdict) (judged : JudgeTasksIs n m part p e v) where
+  pub tasks-refused : (r : Refusal) → v ≡ verdict.Refused r → JudgeTaskIs n m part p e i (verdict.Refused r)
+  tasks-refused = judged-fields 9 tasks-alone m i (firstBadTask n m part p e) v judged
+
+  pub task-absent : v ≡ verdict.Good → m ≤ i → JudgeTaskIs n m part p e i (verdict.Refused (BadTask i))
+  task-absent d = judged-absent 9 tasks-alone m i (firstBadTask n m part p e) v judged d (BadTask i) refl
+
+  pub task-there : v ≡ verdict.Good → i < m → JudgeTaskIs n m part p e i verdict.Good
+  task-there = judged-there 9 tasks-alone m i (firstBadTask n m part p e) v judged

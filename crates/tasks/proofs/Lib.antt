@@ -1,0 +1,2 @@
+-- from one task to all of them, and to one that is asked for
+pub mod Judged
