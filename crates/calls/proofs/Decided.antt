@@ -10,8 +10,8 @@ use Rattle.ranges.proofs.Verdicts.{verdict-good}
 use Rattle.ranges.proofs.Outcomes.{was-given}
 use Rattle.scheduler.specs.States.{pairs}
 use Rattle.scheduler.specs.Promises.{Change, change}
-use Rattle.runs.proofs.OneAnswer.{verdict-injective}
-use Rattle.runs.proofs.Steps.{decision-ticks}
+use Rattle.answers.proofs.OneAnswer.{verdict-injective}
+use Rattle.calls.proofs.Steps.{decision-ticks}
 use Rattle.calls.specs.CodeKeeps.{DecidedTicks}
 
 pub decided-ticks : DecidedTicks

@@ -4,5 +4,7 @@ pub mod ByHand
 pub mod Each
 -- and so do all of them
 pub mod CodeKept
+-- a step is a decision and then its tick
+pub mod Steps
 -- a decision, and then its tick
 pub mod Decided

@@ -79,11 +79,10 @@ module _ (T B : ℕ) where
     -- late exactly when none that stands still is in time
     pub late-exactly : (settledResponse T B above x ≡ none) ↔ ((r : ℕ) → nextResponse T B above (x .e) r ≡ r → T - B + r ≤ x .p → ⊥)
     unfolding IsResponse
-    late-exactly =
-        (
-          λ late r still l. let answer = stands-still r still l in some-is-none (sym (answer .1) ∙ late),
-          λ never. by (settledResponse T B above x) refl never,
-        )
+    late-exactly = (
+      λ late r still l. let answer = stands-still r still l in some-is-none (sym (answer .1) ∙ late),
+      λ never. by (settledResponse T B above x) refl never,
+    )
       where
         by : (a : Option ℕ) → settledResponse T B above x ≡ a → ((r : ℕ) → nextResponse T B above (x .e) r ≡ r → T - B + r ≤ x .p → ⊥) → settledResponse T B above x ≡ none
         by none e never = e
@@ -174,11 +173,10 @@ module _ (n m : ℕ) (T B part p e : List ℕ) (tasks : TasksInRange n m part p 
 
   -- and 0 says that no r that stands still is in time
   pub late-response : (responseOfTask T B m part p e i ≡ 0) ↔ ((r : ℕ) → nextResponse itsT itsB itsAbove (e ! i) r ≡ r → itsT - itsB + r ≤ p ! i → ⊥)
-  late-response =
-      (
-        λ zero. late-exactly itsT itsB itsAbove (work p e i) .0 (zero-is-late itsT itsB itsAbove (work p e i) some-cost .0 (sym in-place ∙ zero)),
-        λ never. in-place ∙ zero-is-late itsT itsB itsAbove (work p e i) some-cost .1 (late-exactly itsT itsB itsAbove (work p e i) .1 never),
-      )
+  late-response = (
+    λ zero. late-exactly itsT itsB itsAbove (work p e i) .0 (zero-is-late itsT itsB itsAbove (work p e i) some-cost .0 (sym in-place ∙ zero)),
+    λ never. in-place ∙ zero-is-late itsT itsB itsAbove (work p e i) some-cost .1 (late-exactly itsT itsB itsAbove (work p e i) .1 never),
+  )
     where
       in-place : responseOfTask T B m part p e i ≡ ticksOrLate itsT itsB (settledResponse itsT itsB itsAbove (work p e i))
       in-place = response-in-place part p e T B m i l
@@ -197,7 +195,6 @@ module _ (h m : ℕ) (part p e part′ p′ e′ : List ℕ)
     (mine : (j : ℕ) → j < m → eqb (part ! j) h ≡ eqb (part′ ! j) h)
     (gaps : (j : ℕ) → j < m → part ! j ≡ h → p ! j ≡ p′ ! j)
     (costs : (j : ℕ) → j < m → part ! j ≡ h → e ! j ≡ e′ ! j) where
-
   own-same : (k : ℕ) → k ≤ m → ownTasks k part p e h ≡ ownTasks k part′ p′ e′ h
   unfolding ownTasks
   own-same k l =

@@ -3,20 +3,17 @@ use Prim.Native.Nat.{ℕ, _≤_, _<_}
 use mathlib.Core.Path.{_≡_, refl, sym, _∙_, ap}
 use mathlib.Core.List.{List, [], _∷_, _++_}
 use mathlib.Core.Option.{Option, some, none}
-use borrow.Author.Tests.{ltb-true}
-use lib.Dec.{ltb}
-use Rattle.basis.specs.Words.{has, orElse, unless}
+use Rattle.basis.specs.Words.{has}
 use Rattle.rules.specs.Numbers.{firstBadPartition, TableInRange, firstBadPair}
 use Rattle.rules.specs.Refusals.{Refused, refusedAs, Ground, ground, badTable, badTableOrIndex, badState, refusal, unlessBefore}
 use Rattle.rules.specs.declared.Refusal.{Refusal}
-use Rattle.laws.proofs.Tests.{some-is-none, unless-none}
-use Rattle.laws.proofs.Refusals.{no-ground, InTurn, Late, late-last, late-alone}
+use Rattle.laws.proofs.Refusals.{no-ground, table-alone, InTurn, Late, late-last, late-alone}
 use Rattle.laws.proofs.Numbers.{table-good}
 use Rattle.ranges.specs.Outcome.{Outcome, refused, gives, unlessRefused}
 use Rattle.ranges.specs.Verdicts.{verdictAs}
 use Rattle.ranges.specs.declared.Verdict.{Verdict}
 use Rattle.ranges.specs.declared.Verdict.the-variants as verdict
-use Rattle.ranges.proofs.Verdicts.{verdict-refused, verdict-good, refused-early, left-to-others}
+use Rattle.ranges.proofs.Verdicts.{verdict-refused, verdict-good, refused-early, left-to-others, asked-good}
 
 module _ {A : Type 0} (x : A) (gs : List Ground) where
   -- a refusal is handed on
@@ -68,19 +65,11 @@ module _ (n : ℕ) (T B phase : List ℕ) where
   few-of-table v e d = few-partitions n T B phase (table-in-range v e d)
 
   module _ (h : ℕ) (v : Verdict) (e : verdictAs v ≡ refusal (badTableOrIndex n T B phase h ∷ [])) (d : v ≡ verdict.Good) where
-    neither : (x : Option ℕ) (a : Option ℕ) → orElse x a ≡ none → (x ≡ none) × (a ≡ none)
-    neither none a p = (refl, p)
-    neither (some i) a p = some-is-none p
-
-    both-good : (firstBadPartition n T B phase ≡ none) × (unless (ltb h n) h ≡ none)
-    unfolding has
-    both-good = neither _ _ (no-ground _ (sym e ∙ verdict-good v d) 1 refl)
-
     pub indexed-table : TableInRange n T B phase
-    indexed-table = both-good .0
+    indexed-table = asked-good 1 table-alone n h (firstBadPartition n T B phase) v e d .0
 
     pub indexed-there : h < n
-    indexed-there = ltb-true h n (unless-none (ltb h n) h (both-good .1))
+    indexed-there = asked-good 1 table-alone n h (firstBadPartition n T B phase) v e d .1
 
   module _ (b o : List ℕ) where
     pub judged-table-good : (v : Verdict) → verdictAs v ≡ refusal (badTable n T B phase ∷ badState n T B b o ∷ []) → v ≡ verdict.Good → TableInRange n T B phase

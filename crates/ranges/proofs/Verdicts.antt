@@ -4,14 +4,14 @@ use mathlib.Core.Path.{_≡_, refl, sym, _∙_, ap}
 use mathlib.Core.Bool.{Bool}
 use mathlib.Core.List.{List, [], _∷_, _++_}
 use mathlib.Core.Option.{Option, some, none}
-use borrow.Author.Tests.{lt-ltb, le-ltb}
+use borrow.Author.Tests.{ltb-true, lt-ltb, le-ltb}
 use lib.Dec.{ltb}
 use Rattle.basis.specs.Words.{orElse, unless}
 use Rattle.rules.specs.Numbers.{firstBadPartition}
 use Rattle.rules.specs.Refusals.{refusedAs, Ground, ground, refusal, unlessBefore}
 use Rattle.rules.specs.declared.Refusal.{Refusal}
 use Rattle.rules.specs.declared.Refusal.the-variants.{BadPartition}
-use Rattle.laws.proofs.Tests.{some-is-none}
+use Rattle.laws.proofs.Tests.{some-is-none, unless-none}
 use Rattle.laws.proofs.Refusals.{Alone, table-alone, InTurn, refused-first, refused-then}
 use Rattle.ranges.specs.Verdicts.{verdictAs}
 use Rattle.ranges.specs.Promises.{JudgeTableIs, JudgeIndexIs}
@@ -68,6 +68,19 @@ module _ (k : ℕ) (alone : Alone k) (n h : ℕ) (fields : Option ℕ) (v : Verd
     pub judged-there : h < n → verdictAs verdict.Good ≡ refusal (ground k (orElse fields (unless (ltb h n) h)) ∷ [])
     judged-there l =
         verdict-good verdict.Good refl ∙ sym (no-fields ∙ ap (λ (t : Bool). unlessBefore k (unless t h) none) (lt-ltb h n l))
+
+-- and back: where such a verdict is good, the fields are, and what is asked for is there
+module _ (k : ℕ) (alone : Alone k) (n h : ℕ) (fields : Option ℕ) (v : Verdict) (e : verdictAs v ≡ refusal (ground k (orElse fields (unless (ltb h n) h)) ∷ [])) where
+  pub asked-good : v ≡ verdict.Good → (fields ≡ none) × (h < n)
+  asked-good d = go fields (sym (alone _) ∙ sym e ∙ verdict-good v d)
+    where
+      nothing : (x : Option ℕ) → unlessBefore k x none ≡ none → x ≡ none
+      nothing (some i) same = some-is-none same
+      nothing none same = refl
+
+      go : (x : Option ℕ) → unlessBefore k (orElse x (unless (ltb h n) h)) none ≡ none → (x ≡ none) × (h < n)
+      go (some i) same = some-is-none same
+      go none same = (refl, ltb-true h n (unless-none (ltb h n) h (nothing (unless (ltb h n) h) same)))
 
 -- a partition that isn't there
 module _ (n : ℕ) (T B phase : List ℕ) (h : ℕ) (v : Verdict) (e : JudgeTableIs n T B phase v) where

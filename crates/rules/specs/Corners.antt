@@ -20,7 +20,7 @@ use Rattle.rules.specs.Tick.{spend, replenishes, nextB, nextO, passTime,
 use Rattle.rules.specs.Release.{release, releaseAllowed}
 use Rattle.rules.specs.Run.{Ran, run}
 use Rattle.rules.specs.TaskResponse.{load, nextResponse, settledResponse, taskResponse, ownTasks, rankOf, responseOfTask}
-use Rattle.rules.specs.Refusals.{refusedAs, ground, refusal, badTableOrIndex, noWord, notListed, notActive, shortBuffer}
+use Rattle.rules.specs.Refusals.{refusedAs, ground, refusal, badTableOrIndex, badTasksOrIndex, noWord, notListed, notActive, shortBuffer}
 use Rattle.rules.specs.Sums.{refused, task, T₁, B₁}
 
 abbrev nine : List Refusal
@@ -109,6 +109,10 @@ corners =
     ∷ (refused (refusal (badTableOrIndex 1 (4 ∷ []) (1 ∷ []) [] 7 ∷ [])) is 1 ∷ 7 ∷ [])
     ∷ (refused (refusal (notListed 1 (4 ∷ []) (1 ∷ []) (1 ∷ []) (4 ∷ []) 7 ∷ [])) is 5 ∷ 7 ∷ [])
     ∷ (refused (refusal (notActive 1 (1 ∷ []) 255 ∷ [])) is 6 ∷ 255 ∷ [])
+    -- a task that isn't there, asked for, is 9 with its index, unless a field is bad: that of a task whose partition isn't there
+    ∷ (refused (refusal (badTasksOrIndex 1 1 (0 ∷ []) (5 ∷ []) (2 ∷ []) 7 ∷ [])) is 9 ∷ 7 ∷ [])
+    ∷ (refused (refusal (badTasksOrIndex 1 1 (1 ∷ []) (5 ∷ []) (2 ∷ []) 7 ∷ [])) is 9 ∷ 0 ∷ [])
+    -- no word, and a buffer that is one too short
     ∷ (refused (refusal (noWord [] ∷ [])) is 4 ∷ 0 ∷ [])
     ∷ (refused (refusal (shortBuffer 6 5 ∷ [])) is 7 ∷ 6 ∷ [])
     ∷ (refused (refusal (shortBuffer 6 6 ∷ [])) is [])

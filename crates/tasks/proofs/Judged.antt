@@ -8,7 +8,7 @@ use native.Mathlib.Omega.{arith}
 use borrow.Author.Tests.{le-leb, lt-ltb, le-ltb}
 use lib.Dec.{leb, ltb}
 use Rattle.basis.specs.Words.{_!_, within, first}
-use Rattle.rules.specs.Numbers.{taskInRange, firstBadTask}
+use Rattle.rules.specs.Numbers.{taskInRange, firstBadTask, TasksInRange}
 use Rattle.rules.specs.Refusals.{badTasks, refusal}
 use Rattle.rules.specs.declared.Refusal.{Refusal}
 use Rattle.rules.specs.declared.Refusal.the-variants.{BadTask}
@@ -17,7 +17,7 @@ use Rattle.laws.proofs.Refusals.{tasks-alone}
 use Rattle.ranges.specs.Verdicts.{verdictAs}
 use Rattle.ranges.specs.declared.Verdict.{Verdict}
 use Rattle.ranges.specs.declared.Verdict.the-variants as verdict
-use Rattle.ranges.proofs.Verdicts.{judged-fields, judged-absent, judged-there}
+use Rattle.ranges.proofs.Verdicts.{judged-fields, judged-absent, judged-there, asked-good}
 use Rattle.tasks.specs.Promises.{JudgeTasksIs, JudgeTaskIs}
 
 -- ---- the tests of one task
@@ -71,3 +71,11 @@ module _ (n m : ℕ) (part p e : List ℕ) (i : ℕ) (v : Verdict) (judged : Jud
 
   pub task-there : v ≡ verdict.Good → i < m → JudgeTaskIs n m part p e i verdict.Good
   task-there = judged-there 9 tasks-alone m i (firstBadTask n m part p e) v judged
+
+-- what a good verdict says
+module _ (n m : ℕ) (part p e : List ℕ) (i : ℕ) (v : Verdict) (judged : JudgeTaskIs n m part p e i v) (d : v ≡ verdict.Good) where
+  pub asked-tasks : TasksInRange n m part p e
+  asked-tasks = asked-good 9 tasks-alone m i (firstBadTask n m part p e) v judged d .0
+
+  pub asked-there : i < m
+  asked-there = asked-good 9 tasks-alone m i (firstBadTask n m part p e) v judged d .1

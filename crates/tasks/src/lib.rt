@@ -34,9 +34,9 @@ pub fn judge_tasks<'k>(
     if m > 64 {
         return Verdict::Refused(Refusal::BadTask(64));
     }
-    for i in 0..m {
-        if !task_in_range(n, partition[i], gap[i], cost[i]) {
-            return Verdict::Refused(Refusal::BadTask(i));
+    for j in 0..m {
+        if !task_in_range(n, partition[j], gap[j], cost[j]) {
+            return Verdict::Refused(Refusal::BadTask(j));
         }
     }
     Verdict::Good

@@ -7,10 +7,10 @@ use Rattle.tasks.proofs.judge_tasks.Statement.{statement}
 use Rattle.tasks.proofs.judge_tasks.Tie as tie
 
 abbrev Inv-loop : tie.InvT-loop
-Inv-loop n m partition gap cost i₀ i = (i ≤ m) × PassTo (task n m partition gap cost) i
+Inv-loop n m partition gap cost j₀ j = (j ≤ m) × PassTo (task n m partition gap cost) j
 
 abbrev μ-loop : tie.MeasureT-loop
-μ-loop n m partition gap cost i₀ i = m - i
+μ-loop n m partition gap cost j₀ j = m - j
 
 returns : tie.Need-returns Inv-loop μ-loop
 returns c = too-many-tasks _ _ _ _ _ (c .if1 .taken)
@@ -42,8 +42,8 @@ task-in-range-requires c κs = search needs
 returns-2 : tie.Need-returns-2 Inv-loop μ-loop
 returns-2 c = bad-tasks _ _ _ _ _ (c .before .before .before .before .before .before .before .if1 .left) _ (fails-here _ _ (c .before .before .before .before .before .before .loop .inv .1) _ _ (c .before .before .before .before .before .loop-test .taken) (c .before .task-in-range .ensures) (c .if2 .taken))
 
-add-i : tie.Need-add-i Inv-loop μ-loop
-add-i c = search needs
+add-j : tie.Need-add-j Inv-loop μ-loop
+add-j c = search needs
 
 loop-less : tie.Need-loop-less Inv-loop μ-loop
 loop-less c = search needs
@@ -70,7 +70,7 @@ judge-tasks-spec =
     element-copy-out-task-in-range-3
     task-in-range-requires
     returns-2
-    add-i
+    add-j
     loop-less
     loop-again
     returns-3)

@@ -7,6 +7,7 @@ use mathlib.Core.Option.{some}
 use native.Mathlib.Omega.{arith}
 use Rattle.rules.specs.Refusals.{Refused}
 use Rattle.rules.specs.declared.Table.{Table}
+use Rattle.rules.specs.declared.Tasks.{Tasks}
 use Rattle.laws.proofs.Tests.{none-is-some, some-is-none}
 use Rattle.laws.proofs.Refusals.{refused-injective}
 use Rattle.ranges.specs.Outcome.{Outcome, refused, gives}
@@ -14,6 +15,7 @@ use Rattle.ranges.specs.Verdicts.{verdictAs}
 use Rattle.ranges.specs.Promises.{JudgeTableIs, JudgeIndexIs, JudgeStateIs, JudgeIs}
 use Rattle.ranges.specs.declared.Verdict.{Verdict}
 use Rattle.ranges.specs.declared.Verdict.the-variants as verdict
+use Rattle.tasks.specs.Promises.{JudgeTasksIs, JudgeTaskIs}
 use Rattle.busy.specs.Spans.{spanAs}
 use Rattle.busy.specs.Promises.{BusyLengthIs, PassesIs}
 use Rattle.busy.specs.declared.Span.{Span}
@@ -32,10 +34,14 @@ use Rattle.draw.specs.declared.Weighed.{Weighed}
 use Rattle.draw.specs.declared.Decision.{Decision}
 use Rattle.draw.specs.declared.Decision.the-variants as decided
 use Rattle.scheduler.specs.Promises.{Change, changedAs, FreshIs, JudgedIs, TickedIs, TickIs, ReleaseIs}
 use Rattle.runs.specs.Promises.{Step, steppedAs, Runs, ranAs, StepIs, RunIs}
 use Rattle.scheduler.specs.declared.State.{State}
 use Rattle.scheduler.specs.declared.Changed.{Changed}
 use Rattle.runs.specs.declared.Stepped.{Stepped}
+use Rattle.responses.specs.Answers.{responseAs}
+use Rattle.responses.specs.Promises.{TaskResponseIs}
+use Rattle.responses.specs.declared.Response.{Response}
+use Rattle.responses.specs.declared.Response.the-variants as response
 
 -- ---- no two cases of an enum have the same number and values
 taken : {A : Type 0} {x y : A} → some x ≡ some y → x ≡ y
@@ -98,6 +104,12 @@ decision-injective (decided.Pick x) (decided.Refused q) e = never-both e
 decision-injective (decided.Refused p) (decided.Pick y) e = never-both (sym e)
 decision-injective (decided.Refused p) (decided.Refused q) e = ap decided.Refused (refused-injective p q (refused-as e))
 
+pub response-injective : (r s : Response) → responseAs r ≡ responseAs s → r ≡ s
+response-injective (response.Ticks x) (response.Ticks y) e = ap response.Ticks (given-as e)
+response-injective (response.Ticks x) (response.Refused q) e = never-both e
+response-injective (response.Refused p) (response.Ticks y) e = never-both (sym e)
+response-injective (response.Refused p) (response.Refused q) e = ap response.Refused (refused-injective p q (refused-as e))
+
 -- ---- nor do two answers that hold an array or a state
 listed-injective : (r s : Listed) → listedAs r ≡ listedAs s → r ≡ s
 listed-injective r s e = λ i. record { list = e i .list; length = e i .length; verdict = verdict-injective (r .verdict) (s .verdict) (ap (λ (x : Listing). x .refused) e) i }
@@ -146,6 +158,13 @@ module _ (n : ℕ) (T B phase b o : List ℕ) where
   pub choose-one : (word r s : ℕ) → ChooseIs n T B b o word r → ChooseIs n T B b o word s → r ≡ s
   choose-one word r s p q = p ∙ sym q
 
+module _ (n m : ℕ) (partition p e : List ℕ) where
+  pub judge-tasks-one : (r s : Verdict) → JudgeTasksIs n m partition p e r → JudgeTasksIs n m partition p e s → r ≡ s
+  judge-tasks-one r s a b = verdict-injective r s (a ∙ sym b)
+
+  pub judge-task-one : (i : ℕ) (r s : Verdict) → JudgeTaskIs n m partition p e i r → JudgeTaskIs n m partition p e i s → r ≡ s
+  judge-task-one i r s a b = verdict-injective r s (a ∙ sym b)
+
 module _ (t : Table) (b o : List ℕ) where
   pub admission-one : (r s : Test) → AdmissionIs t r → AdmissionIs t s → r ≡ s
   admission-one r s p q = test-injective r s (p ∙ sym q)
@@ -190,3 +209,6 @@ module _ (t : Table) (now : State) where
   -- the state and the verdict, and the buffer
   pub run-one : (words buffer : List ℕ) (r s : Changed) (x y : List ℕ) → RunIs t now words buffer r x → RunIs t now words buffer s y → (r ≡ s) × (x ≡ y)
   run-one words buffer r s x y p q = (ran-injective r s x y (p ∙ sym q), ap (λ (z : Runs). z .buffer) (p ∙ sym q))
+
+pub task-response-one : (t : Table) (k : Tasks) (i : ℕ) (r s : Response) → TaskResponseIs t k i r → TaskResponseIs t k i s → r ≡ s
+task-response-one t k i r s p q = response-injective r s (p ∙ sym q)

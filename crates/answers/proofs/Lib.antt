@@ -1,0 +1,2 @@
+-- any two results that a promise allows are equal
+pub mod OneAnswer

@@ -1,0 +1,1 @@
+// One answer for each call: no code, only theorems in proofs/.

@@ -1,0 +1,149 @@
+// The response times of tasks: how long a task takes at worst, from its own partition's numbers alone.
+ghost use mathlib.Core.Path.{_≡_};
+ghost use mathlib.Core.Bool.{cond};
+ghost use Prim.Native.Nat.{_+_, _-_, _*_, _<_, _≤_};
+ghost use lib.Dec.{eqb};
+ghost use Rattle.basis.specs.Words.{_!_, ceil, sumBelow};
+ghost use Rattle.basis.specs.Reckoned.{Reckoned};
+ghost use Rattle.rules.specs.TaskResponse.{settledResponse, ticksOrLate, ownTasks};
+ghost use Rattle.responses.specs.Inner.{Ready, responseInPlace};
+ghost use Rattle.responses.specs.Promises.{TaskResponseIs};
+use ranges::Verdict;
+use ranges::judge_table;
+use rules::Refusal;
+use rules::Table;
+use rules::Tasks;
+use tasks::judge_task;
+
+// The ticks that a task takes at worst, 0 for late.
+pub enum Response {
+    Ticks(u64),
+    Refused(Refusal),
+}
+
+// What a task of partition `of` asks for within a window, where that is partition `h`: ceil(window/p)·e.
+fn asked(of: u16, h: u16, gap: u16, cost: u16, window: u64) -> u64
+    requires { ⌜ window < 65536 ⌝ }
+    ensures { λ r. ⌜ Reckoned 4294967296 (cond (eqb of h) (ceil window gap * cost) 0) r ⌝ }
+{
+    if of != h {
+        return 0;
+    }
+    let p = gap as u64;
+    if p == 0 {
+        return 0;
+    }
+    let times = (window + (p - 1)) / p;
+    times * (cost as u64)
+}
+
+// What the tasks of partition `h` before task `i` ask for within a window.
+fn asked_above<'k>(
+    partition: &'k [u16; 64],
+    gap: &'k [u16; 64],
+    cost: &'k [u16; 64],
+    h: u16,
+    i: usize,
+    window: u64,
+) -> u64
+    requires { ⌜ (i ≤ 64) × (window < 65536) ⌝ }
+    ensures { λ r. ⌜ Reckoned 274877906945 (sumBelow i (λ j. cond (eqb (now (partition .entry) ! j) h) (ceil window (now (gap .entry) ! j) * now (cost .entry) ! j) 0)) r ⌝ }
+{
+    let mut sum = 0;
+    for j in 0..i {
+        sum += asked(partition[j], h, gap[j], cost[j], window);
+    }
+    sum
+}
+
+// How long a load takes that is served by a budget in each period, the last part of it late: L + ceil(L/B)·(T − B).
+fn served(load: u64, budget: u16, away: u64) -> u64
+    requires { ⌜ (load < 549755813888) × (away < 65536) ⌝ }
+    ensures { λ r. ⌜ Reckoned 36028797018963968 (load + ceil load budget * away) r ⌝ }
+{
+    let b = budget as u64;
+    if b == 0 {
+        return load;
+    }
+    let periods = (load + (b - 1)) / b;
+    load + periods * away
+}
+
+// From r = e, until r stands still or T − B + r exceeds p: T − B + r, or 0 for late.
+fn settled<'k>(
+    partition: &'k [u16; 64],
+    gap: &'k [u16; 64],
+    cost: &'k [u16; 64],
+    i: usize,
+    h: u16,
+    p: u16,
+    e: u16,
+    period: u16,
+    budget: u16,
+) -> u64
+    requires { ⌜ (i ≤ 64) × (budget ≤ period) ⌝ }
+    ensures { λ r. ⌜ r ≡ ticksOrLate period budget (settledResponse period budget (ownTasks i (now (partition .entry)) (now (gap .entry)) (now (cost .entry)) h) (record { p = p; e = e })) ⌝ }
+{
+    let away = (period - budget) as u64;
+    let limit = p as u64;
+    let own = e as u64;
+    let mut r = own;
+    while away + r <= limit {
+        let above = asked_above(partition, gap, cost, h, i, away + r);
+        let next = served(own + above, budget, away);
+        if next == r {
+            return away + r;
+        }
+        r = next;
+    }
+    0
+}
+
+// The response of task `i`, over arrays.
+fn response_of<'t, 'k>(
+    period: &'t [u16; 16],
+    budget: &'t [u16; 16],
+    partition: &'k [u16; 64],
+    gap: &'k [u16; 64],
+    cost: &'k [u16; 64],
+    i: usize,
+) -> u64
+    requires { ⌜ Ready (now period) (now budget) (now partition) i ⌝ }
+    ensures { λ r. ⌜ r ≡ responseInPlace (now (period .entry)) (now (budget .entry)) (now (partition .entry)) (now (gap .entry)) (now (cost .entry)) i ⌝ }
+{
+    let h = partition[i];
+    settled(
+        partition,
+        gap,
+        cost,
+        i,
+        h,
+        gap[i],
+        cost[i],
+        period[h as usize],
+        budget[h as usize],
+    )
+}
+
+// The response of task `i` beside its partition table. Refusals 1 and 9.
+pub fn task_response(t: Table, tasks: Tasks, i: usize) -> Response
+    ensures { λ r. ⌜ TaskResponseIs t tasks i r ⌝ }
+{
+    let n = t.count;
+    let table = judge_table(n, &t.period, &t.budget, &t.phase);
+    if let Verdict::Refused(r) = table {
+        return Response::Refused(r);
+    }
+    let task = judge_task(n, tasks.count, &tasks.partition, &tasks.gap, &tasks.cost, i);
+    if let Verdict::Refused(r) = task {
+        return Response::Refused(r);
+    }
+    Response::Ticks(response_of(
+        &t.period,
+        &t.budget,
+        &tasks.partition,
+        &tasks.gap,
+        &tasks.cost,
+        i,
+    ))
+}
