@@ -4,15 +4,15 @@ use mathlib.Core.Path.{_≡_, sym, _∙_, ap, fun-ext}
 use mathlib.Core.Bool.{Bool, true, false, cond}
 use mathlib.Core.List.{List}
 use mathlib.Core.Option.{Option, some, none}
-use native.Mathlib.Nat.{le-refl, add-le-add}
+use native.Mathlib.Nat.{le-refl, le-trans, add-le-add}
 use native.Mathlib.Omega.{arith}
-use borrow.Author.Tests.{lt-ltb, le-ltb}
+use borrow.Author.Tests.{ltb-false, lt-ltb, le-ltb}
 use lib.Dec.{ltb}
 use Rattle.basis.specs.Words.{_!_, sumBelow, settle}
 use Rattle.basis.specs.Reckoned.{Reckoned}
 use Rattle.rules.specs.BusyLength.{active, busyStart, refill, busySum, deadline, busyTest}
 use Rattle.laws.proofs.Totals.{sum-mono, sum-one-more}
-use Rattle.laws.proofs.Settle.{Rising, Repeating, repeating-begins, repeated-past, repeated-still, repeating-rises, repeating-on}
+use Rattle.laws.proofs.Settle.{Rising, Start, Repeating, repeating-begins, repeated-past, repeated-still, repeating-on, repeating-nearer}
 use Rattle.laws.proofs.BusyLength.{refill-mono}
 use Rattle.busy.specs.Inner.{filling}
 
@@ -35,6 +35,16 @@ module _ (T B o : List ℕ) (top start D : ℕ) where
   unfolding filling
   filling-rising x y l = add-le-add (le-refl start) (sum-mono top _ _ (λ j k. refill-mono T B o o j x y l))
 
+  started : Start (filling T B o top start) (ltb D) D start
+  unfolding filling
+  started =
+      record {
+        rising = filling-rising;
+        bound = λ x y l near. le-ltb D x (le-trans l (ltb-false D y near));
+        limit = λ x near. ltb-false D x near;
+        lowest = λ x. omega arith;
+      }
+
   -- what the repetition answers
   abbrev pub Settles : Option ℕ
   Settles = settle (suc D) (filling T B o top start) (ltb D) start
@@ -44,33 +54,30 @@ module _ (T B o : List ℕ) (top start D : ℕ) where
   Going W = Repeating (filling T B o top start) (ltb D) D Settles W
 
   pub going-begins : Going start
-  unfolding Going filling
-  going-begins = repeating-begins (filling T B o top start) (ltb D) D start (omega arith)
+  unfolding Going
+  going-begins = repeating-begins started
 
   module _ (W : ℕ) (here : Going W) where
     pub going-over : D < W → none ≡ Settles
     unfolding Going
-    going-over l = repeated-past (filling T B o top start) (ltb D) D filling-rising Settles W here (lt-ltb D W l)
+    going-over l = repeated-past started Settles W here (lt-ltb D W l)
 
-    module _ (r : ℕ) (next : Reckoned 137438953473 (sumBelow top (λ j. refill T B o j W)) r) where
+    module _ (r : ℕ) (next : Reckoned 137438953473 (sumBelow top (λ j. refill T B o j W)) r) (l : W ≤ D) where
       sum-is : start + r ≡ filling T B o top start W
       unfolding filling
       sum-is = ap (λ x. start + x) (next .is)
 
-      pub going-still : W ≤ D → start + r ≡ W → some W ≡ Settles
+      pub going-still : start + r ≡ W → some W ≡ Settles
       unfolding Going
-      going-still l e = repeated-still (filling T B o top start) (ltb D) D filling-rising Settles W here (le-ltb D W l) l (sym sum-is ∙ e)
+      going-still = repeated-still started Settles W here (le-ltb D W l) (start + r) sum-is
 
-      pub going-up : (start + r ≡ W → ⊥) → W < start + r
+      pub going-on : (start + r ≡ W → ⊥) → Going (start + r)
       unfolding Going
-      going-up moved = rw sum-is (repeating-rises (filling T B o top start) (ltb D) D filling-rising Settles W here (λ e. moved (sum-is ∙ e)))
+      going-on = repeating-on started Settles W here (le-ltb D W l) (start + r) sum-is
 
-      pub going-on : W ≤ D → (start + r ≡ W → ⊥) → Going (start + r)
+      pub going-nearer : (start + r ≡ W → ⊥) → D + 1 - (start + r) < D + 1 - W
       unfolding Going
-      going-on l moved = rw sum-is (repeating-on (filling T B o top start) (ltb D) D filling-rising Settles W here (le-ltb D W l) l (λ e. moved (sum-is ∙ e)))
-
-      pub going-nearer : W ≤ D → (start + r ≡ W → ⊥) → D + 1 - (start + r) < D + 1 - W
-      going-nearer l moved = let up = going-up moved in omega arith
+      going-nearer = repeating-nearer started Settles W here (le-ltb D W l) (start + r) sum-is
 
 -- ---- and so is the whole test
 module _ (T B b o : List ℕ) (h w : ℕ) (d : ℕ) (due : Reckoned 131072 (cond (ltb 0 (b ! h)) (o ! h) (o ! h + T ! h)) d) where

@@ -1,7 +1,7 @@
 // The draw: the weights of the candidates, and the pick that a word makes among them.
 ghost use mathlib.Core.Path.{_≡_};
 ghost use mathlib.Core.Logic.{_⊎_};
-ghost use Prim.Native.Nat.{_+_, _*_, _/_, _<_, _≤_};
+ghost use Prim.Native.Nat.{_*_, _/_, _<_, _≤_};
 ghost use lib.ListN.{take};
 ghost use lib.ListN as Seq;
 ghost use Rattle.rules.specs.Candidates.{idle};

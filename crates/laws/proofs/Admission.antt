@@ -16,7 +16,7 @@ use Rattle.laws.proofs.Totals.{sum-same, sum-plus}
 use Rattle.rules.specs.Admission.{demand, atRest, IsR, Admitted, responseWithin, firstUnadmitted}
 use Rattle.rules.specs.BusyLength.{active, busyStart, refill, busySum, deadline, IsBusyLength, busyTest}
 use Rattle.laws.proofs.Arrivals.{arrivals-synchronous}
-use Rattle.laws.proofs.BusyLength.{Length, test-some, some-test, start-le-sum}
+use Rattle.laws.proofs.BusyLength.{Length, test-exactly, start-le-sum}
 
 module _ (T B : List ℕ) where
   -- R exists and is at most T_h
@@ -117,6 +117,6 @@ module _ (T B : List ℕ) where
     admission-is-busy = go (busyTest T B B T h 0) refl (responseWithin T B h) refl
       where
         go : (x : Option ℕ) → busyTest T B B T h 0 ≡ x → (y : Option ℕ) → responseWithin T B h ≡ y → x ≡ y
-        go (some W) e y d = sym (some-response h W (busy-response W (test-some T B B T h 0 W e))) ∙ d
-        go none e (some R) d = sym e ∙ some-test T B B T h 0 R (response-busy R (response-some h R d))
+        go (some W) e y d = sym (some-response h W (busy-response W (test-exactly T B B T h 0 W .0 e))) ∙ d
+        go none e (some R) d = sym e ∙ test-exactly T B B T h 0 R .1 (response-busy R (response-some h R d))
         go none e none d = refl

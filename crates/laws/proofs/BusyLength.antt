@@ -1,18 +1,18 @@
 -- The busy test: its repetition finds the least fixed point, and finds one within the deadline exactly when some W within it has a sum of at most W.
-use Prim.Native.Nat.{ℕ, suc, _+_, _≤_}
-use mathlib.Core.Path.{_≡_, refl, ap, _∙_}
+use Prim.Native.Nat.{ℕ, _+_, _≤_}
+use mathlib.Core.Path.{_≡_, refl, ap}
 use mathlib.Core.Bool.{Bool, true, false, cond}
 use mathlib.Core.List.{List}
 use mathlib.Core.Logic.{_↔_}
 use mathlib.Core.Option.{some}
-use native.Mathlib.Nat.{le-refl, le-trans, le-antisymm, le-of-eq, add-le-add, mul-le-mul-right, zero-mul}
+use native.Mathlib.Nat.{le-refl, le-trans, le-of-eq, add-le-add, mul-le-mul-right, zero-mul}
 use native.Mathlib.Omega.{arith}
 use borrow.Author.Tests.{ltb-true, ltb-false, le-ltb}
 use lib.Dec.{ltb}
 use Rattle.basis.specs.Words.{_!_, sumBelow, found}
 use Rattle.laws.proofs.Tests.{found-some}
 use Rattle.laws.proofs.Totals.{sum-mono, sum-none}
-use Rattle.laws.proofs.Settle.{Rising, Bound, settle-some, settle-finds}
+use Rattle.laws.proofs.Settle.{Rising, Bound, Start, settles-finds, settles-exactly}
 use Rattle.rules.specs.BusyLength.{active, busyStart, refill, busySum, deadline, IsBusyLength, busyTest, passes}
 use Rattle.laws.proofs.Arrivals.{arrivals-mono, arrivals-none}
 
@@ -54,14 +54,16 @@ module _ (T B b o : List ℕ) where
     pub least : IsBusyLength T B b o h w W
     pub within : W ≤ deadline T b o h
 
-  pub test-some : (h w W : ℕ) → busyTest T B b o h w ≡ some W → Length h w W
+  started : (h w : ℕ) → Start (busySum T B b o h w) (ltb (deadline T b o h)) (deadline T b o h) (busyStart b h w)
+  started h w = record { rising = sum-rising h w; bound = bounded (deadline T b o h); limit = λ W near. ltb-false _ W near; lowest = start-le-sum h w }
+
+  -- the repetition finds the least fixed point
+  pub test-exactly : (h w W : ℕ) → (busyTest T B b o h w ≡ some W) ↔ Length h w W
   unfolding busyTest IsBusyLength
-  test-some h w W p =
-      let s = settle-some (busySum T B b o h w) _ (sum-rising h w) _ _ W p in
-      record {
-        least = (s .still, λ X e. s .least X (le-trans (start-le-sum h w X) (le-of-eq e)) (le-of-eq e));
-        within = ltb-false _ W (s .bounded);
-      }
+  test-exactly h w W = (
+    λ p. let s = settles-exactly (started h w) W .0 p in record { least = s .0; within = ltb-false _ W (s .1) },
+    λ l. settles-exactly (started h w) W .1 (l .least, le-ltb _ W (l .within)),
+  )
 
   -- a W within the deadline whose sum it covers: the one thing that everybody else needs to know of the busy test
   pub record Witness (h w W : ℕ) : Type 0 where
@@ -70,28 +72,13 @@ module _ (T B b o : List ℕ) where
 
   witness-finds : (h w W : ℕ) → Witness h w W → (X : ℕ) × (busyTest T B b o h w ≡ some X)
   unfolding busyTest
-  witness-finds h w W witness =
-      let D : ℕ = deadline T b o h in
-      let start : ℕ = busyStart b h w in
-      settle-finds (busySum T B b o h w) (ltb D) (sum-rising h w) (bounded D) (suc D) start W (start-le-sum h w start)
-      (le-trans (start-le-sum h w W) (witness .covers)) (witness .covers) (le-ltb D W (witness .within)) (omega arith)
-
-  pub some-test : (h w W : ℕ) → Length h w W → busyTest T B b o h w ≡ some W
-  unfolding IsBusyLength
-  some-test h w W l =
-      let answer = witness-finds h w W (record { within = l .within; covers = le-of-eq (l .least .0) }) in
-      let s = test-some h w (answer .0) (answer .1) in
-      answer .1 ∙ ap some (le-antisymm (s .least .1 W (l .least .0)) (l .least .1 (answer .0) (s .least .0)))
-
-  -- the repetition finds the least fixed point
-  pub test-exactly : (h w W : ℕ) → (busyTest T B b o h w ≡ some W) ↔ Length h w W
-  test-exactly h w W = (test-some h w W, some-test h w W)
+  witness-finds h w W witness = settles-finds (started h w) W (witness .covers) (le-ltb _ W (witness .within))
 
   pub passes-witness : (h w : ℕ) → passes T B b o h w ≡ true → (W : ℕ) × Witness h w W
   unfolding passes IsBusyLength
   passes-witness h w p =
       let answer = found-some (busyTest T B b o h w) p in
-      let l = test-some h w (answer .0) (answer .1) in
+      let l = test-exactly h w (answer .0) .0 (answer .1) in
       (answer .0, record { within = l .within; covers = le-of-eq (l .least .0) })
 
   pub witness-passes : (h w W : ℕ) → Witness h w W → passes T B b o h w ≡ true

@@ -1,22 +1,21 @@
 -- The response of a task: the least r that stands still, late exactly when none does in time, and from its own partition's numbers alone.
-use Prim.Native.Nat.{ℕ, suc, _+_, _-_, _*_, _≤_, _<_}
+use Prim.Native.Nat.{ℕ, _+_, _-_, _*_, _≤_, _<_}
 use mathlib.Core.Path.{_≡_, refl, sym, _∙_, ap, ap₂}
-use mathlib.Core.Bool.{Bool, true, cond}
-use mathlib.Core.List.{List, [], _∷_, _++_, map, map-append, map-map}
+use mathlib.Core.Bool.{true, cond}
+use mathlib.Core.List.{List, _∷_, _++_, map, map-append, map-map}
 use mathlib.Core.Logic.{_↔_}
 use mathlib.Core.Option.{Option, some, none}
-use native.Mathlib.Nat.{le-refl, le-trans, le-antisymm, le-of-eq, lt-trans, add-le-add, mul-le-mul-right}
+use native.Mathlib.Nat.{le-refl, le-trans, add-le-add, mul-le-mul-right}
 use native.Mathlib.Omega.{arith}
 use borrow.Author.Tests.{ltb-false, le-ltb, eqb-true, eq-eqb}
 use lib.Dec.{eqb}
 use lib.ListN.{length, take, getD, length-map}
 use lib.Seq.{take-at, getD-append-seam}
 use Rattle.basis.specs.Words.{_!_, ceil, sumBelow, total, those}
-use Rattle.laws.proofs.Tests.{some-is-none}
 use Rattle.laws.proofs.Ceil.{ceil-mono}
 use Rattle.laws.proofs.Totals.{total-mono, total-those}
 use Rattle.laws.proofs.Places.{those-same, those-split, map-those-same}
-use Rattle.laws.proofs.Settle.{Rising, Bound, settle-some, settle-finds}
+use Rattle.laws.proofs.Settle.{Rising, Start, settles-exactly, settles-never}
 use Rattle.laws.proofs.Numbers.{tasks-good}
 use Rattle.rules.specs.Numbers.{TasksInRange}
 use Rattle.rules.specs.TaskResponse.{Work, load, nextResponse, IsResponse, exceeds, settledResponse, ticksOrLate, taskResponse, work, ownTasks, rankOf, responseOfTask}
@@ -40,69 +39,53 @@ module _ (T B : ℕ) (above : List Work) where
   unfolding nextResponse load
   cost-least e r = omega arith
 
-module _ (T B : ℕ) where
-  in-time : (p : ℕ) → Bound (exceeds T B p)
-  in-time p r s l near = le-ltb p (T - B + r) (le-trans (add-le-add (le-refl (T - B)) l) (ltb-false p (T - B + s) near))
+module _ (T B : ℕ) (above : List Work) (x : Work) where
+  -- what the repetition begins with
+  pub response-start : Start (nextResponse T B above (x .e)) (exceeds T B (x .p)) (x .p) (x .e)
+  response-start =
+      record {
+        rising = response-rising T B above (x .e);
+        bound = λ r s l near. le-ltb (x .p) (T - B + r) (le-trans (add-le-add (le-refl (T - B)) l) (ltb-false (x .p) (T - B + s) near));
+        limit = λ r near. let in-gap = ltb-false (x .p) (T - B + r) near in omega arith;
+        lowest = cost-least T B above (x .e);
+      }
 
-  module _ (above : List Work) (x : Work) where
-    -- what it means that the task isn't late
-    pub record OnTime (r : ℕ) : Type 0 where
-      pub least : IsResponse T B above (x .e) r
-      pub in-gap : T - B + r ≤ x .p
+  -- what it means that the task isn't late
+  pub record OnTime (r : ℕ) : Type 0 where
+    pub least : IsResponse T B above (x .e) r
+    pub in-gap : T - B + r ≤ x .p
 
-    on-time : (r : ℕ) → settledResponse T B above x ≡ some r → OnTime r
-    unfolding settledResponse IsResponse
-    on-time r found =
-        let s = settle-some (nextResponse T B above (x .e)) _ (response-rising T B above (x .e)) _ _ r found in
-        record {
-          least = (s .still, λ z e. s .least z (le-trans (cost-least T B above (x .e) z) (le-of-eq e)) (le-of-eq e));
-          in-gap = ltb-false (x .p) (T - B + r) (s .bounded);
-        }
+  -- the repetition finds the least r that stands still, if it is in time
+  pub response-exactly : (r : ℕ) → (settledResponse T B above x ≡ some r) ↔ OnTime r
+  unfolding settledResponse IsResponse
+  response-exactly r = (
+    λ p. let s = settles-exactly response-start r .0 p in record { least = s .0; in-gap = ltb-false (x .p) (T - B + r) (s .1) },
+    λ o. settles-exactly response-start r .1 (o .least, le-ltb (x .p) (T - B + r) (o .in-gap)),
+  )
 
-    stands-still : (r : ℕ) → nextResponse T B above (x .e) r ≡ r → T - B + r ≤ x .p → (s : ℕ) × (settledResponse T B above x ≡ some s)
-    unfolding settledResponse
-    stands-still r still l =
-        settle-finds (nextResponse T B above (x .e)) (exceeds T B (x .p)) (response-rising T B above (x .e)) (in-time (x .p)) (suc (x .p)) (x .e) r
-        (cost-least T B above (x .e) (x .e)) (le-trans (cost-least T B above (x .e) r) (le-of-eq still)) (le-of-eq still) (le-ltb (x .p) (T - B + r) l) (omega arith)
+  -- late exactly when none that stands still is in time
+  pub late-exactly : (settledResponse T B above x ≡ none) ↔ ((r : ℕ) → nextResponse T B above (x .e) r ≡ r → T - B + r ≤ x .p → ⊥)
+  unfolding settledResponse
+  late-exactly = (
+    λ late r still l. settles-never response-start .0 late r still (le-ltb (x .p) (T - B + r) l),
+    λ nowhere. settles-never response-start .1 (λ r still near. nowhere r still (ltb-false (x .p) (T - B + r) near)),
+  )
 
-    on-time-settles : (r : ℕ) → OnTime r → settledResponse T B above x ≡ some r
-    unfolding IsResponse
-    on-time-settles r o =
-        let answer = stands-still r (o .least .0) (o .in-gap) in
-        let s = on-time (answer .0) (answer .1) in
-        answer .1 ∙ ap some (le-antisymm (s .least .1 r (o .least .0)) (o .least .1 (answer .0) (s .least .0)))
+  -- "A true response is never 0."
+  pub never-zero : 1 ≤ x .e → (r : ℕ) → settledResponse T B above x ≡ some r → 1 ≤ T - B + r
+  unfolding IsResponse
+  never-zero some-cost r found =
+      let still : nextResponse T B above (x .e) r ≡ r = response-exactly r .0 found .least .0 in
+      let own = cost-least T B above (x .e) r in
+      omega arith
 
-    -- the repetition finds the least r that stands still, if it is in time
-    pub response-exactly : (r : ℕ) → (settledResponse T B above x ≡ some r) ↔ OnTime r
-    response-exactly r = (on-time r, on-time-settles r)
-
-    -- late exactly when none that stands still is in time
-    pub late-exactly : (settledResponse T B above x ≡ none) ↔ ((r : ℕ) → nextResponse T B above (x .e) r ≡ r → T - B + r ≤ x .p → ⊥)
-    unfolding IsResponse
-    late-exactly = (
-      λ late r still l. let answer = stands-still r still l in some-is-none (sym (answer .1) ∙ late),
-      λ never. by (settledResponse T B above x) refl never,
-    )
-      where
-        by : (a : Option ℕ) → settledResponse T B above x ≡ a → ((r : ℕ) → nextResponse T B above (x .e) r ≡ r → T - B + r ≤ x .p → ⊥) → settledResponse T B above x ≡ none
-        by none e never = e
-        by (some r) e never = let o = on-time r e in absurd (never r (o .least .0) (o .in-gap))
-
-    -- "A true response is never 0."
-    pub never-zero : 1 ≤ x .e → (r : ℕ) → settledResponse T B above x ≡ some r → 1 ≤ T - B + r
-    unfolding IsResponse
-    never-zero some-cost r found =
-        let still : nextResponse T B above (x .e) r ≡ r = on-time r found .least .0 in
-        let own = cost-least T B above (x .e) r in
-        omega arith
-
-    -- so 0 says late, and nothing else does
-    pub zero-is-late : 1 ≤ x .e → (ticksOrLate T B (settledResponse T B above x) ≡ 0) ↔ (settledResponse T B above x ≡ none)
-    zero-is-late some-cost = (λ zero. by (settledResponse T B above x) refl zero, λ late. ap (ticksOrLate T B) late)
-      where
-        by : (a : Option ℕ) → settledResponse T B above x ≡ a → ticksOrLate T B a ≡ 0 → settledResponse T B above x ≡ none
-        by none e zero = e
-        by (some r) e zero = let more = never-zero some-cost r e in absurd (omega arith)
+  -- so 0 says late, and nothing else does
+  pub zero-is-late : 1 ≤ x .e → (ticksOrLate T B (settledResponse T B above x) ≡ 0) ↔ (settledResponse T B above x ≡ none)
+  zero-is-late some-cost = (λ zero. by (settledResponse T B above x) refl zero, λ late. ap (ticksOrLate T B) late)
+    where
+      by : (a : Option ℕ) → settledResponse T B above x ≡ a → ticksOrLate T B a ≡ 0 → settledResponse T B above x ≡ none
+      by none e zero = e
+      by (some r) e zero = let more = never-zero some-cost r e in absurd (omega arith)
 
 -- ---- the tasks of a table
 module _ (part p e : List ℕ) where

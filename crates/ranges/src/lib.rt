@@ -2,7 +2,7 @@
 ghost use mathlib.Core.Path.{_≡_};
 ghost use mathlib.Core.Bool.{_&&_};
 ghost use Prim.Native.Nat.{_<_};
-ghost use Rattle.basis.specs.Words.{_!_, within};
+ghost use Rattle.basis.specs.Words.{within};
 ghost use Rattle.rules.specs.Numbers.{partitionInRange, pairInRange};
 ghost use Rattle.ranges.specs.Promises.{JudgeTableIs, JudgeIndexIs, JudgeStateIs, JudgeIs};
 use rules::Refusal;

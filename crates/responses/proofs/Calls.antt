@@ -1,10 +1,8 @@
 -- From the verdicts to what the call promises.
 use Prim.Native.Nat.{ℕ, _<_}
 use mathlib.Core.Path.{_≡_, sym, _∙_, ap}
-use mathlib.Core.List.{List, [], _∷_}
 use native.Mathlib.Omega.{arith}
 use Rattle.basis.specs.Words.{_!_}
-use Rattle.rules.specs.Numbers.{TableInRange, TasksInRange}
 use Rattle.rules.specs.TaskResponse.{responseOfTask}
 use Rattle.rules.specs.declared.Table.{Table}
 use Rattle.rules.specs.declared.Tasks.{Tasks}

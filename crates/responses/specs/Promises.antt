@@ -1,7 +1,7 @@
 -- What the public function of this crate promises of its answer r: the rule, or 01's refusal.
 use Prim.Native.Nat.{ℕ}
 use mathlib.Core.Path.{_≡_}
-use mathlib.Core.List.{List, [], _∷_}
+use mathlib.Core.List.{[], _∷_}
 use Rattle.rules.specs.TaskResponse.{responseOfTask}
 use Rattle.rules.specs.Refusals.{badTable, badTasksOrIndex, refusal}
 use Rattle.rules.specs.declared.Table.{Table}

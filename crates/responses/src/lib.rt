@@ -12,6 +12,7 @@ use ranges::Verdict;
 use ranges::judge_table;
 use rules::Refusal;
 use rules::Table;
+use rules::Task;
 use rules::Tasks;
 use tasks::judge_task;
 
@@ -75,21 +76,19 @@ fn settled<'k>(
     gap: &'k [u16; 64],
     cost: &'k [u16; 64],
     i: usize,
-    h: u16,
-    p: u16,
-    e: u16,
+    x: Task,
     period: u16,
     budget: u16,
 ) -> u64
     requires { ⌜ (i ≤ 64) × (budget ≤ period) ⌝ }
-    ensures { λ r. ⌜ r ≡ ticksOrLate period budget (settledResponse period budget (ownTasks i (now (partition .entry)) (now (gap .entry)) (now (cost .entry)) h) (record { p = p; e = e })) ⌝ }
+    ensures { λ r. ⌜ r ≡ ticksOrLate period budget (settledResponse period budget (ownTasks i (now (partition .entry)) (now (gap .entry)) (now (cost .entry)) (x .partition)) (record { p = x .gap; e = x .cost })) ⌝ }
 {
     let away = (period - budget) as u64;
-    let limit = p as u64;
-    let own = e as u64;
+    let limit = x.gap as u64;
+    let own = x.cost as u64;
     let mut r = own;
     while away + r <= limit {
-        let above = asked_above(partition, gap, cost, h, i, away + r);
+        let above = asked_above(partition, gap, cost, x.partition, i, away + r);
         let next = served(own + above, budget, away);
         if next == r {
             return away + r;
@@ -111,18 +110,13 @@ fn response_of<'t, 'k>(
     requires { ⌜ Ready (now period) (now budget) (now partition) i ⌝ }
     ensures { λ r. ⌜ r ≡ responseInPlace (now (period .entry)) (now (budget .entry)) (now (partition .entry)) (now (gap .entry)) (now (cost .entry)) i ⌝ }
 {
-    let h = partition[i];
-    settled(
-        partition,
-        gap,
-        cost,
-        i,
-        h,
-        gap[i],
-        cost[i],
-        period[h as usize],
-        budget[h as usize],
-    )
+    let x = Task {
+        partition: partition[i],
+        gap: gap[i],
+        cost: cost[i],
+    };
+    let h = x.partition as usize;
+    settled(partition, gap, cost, i, x, period[h], budget[h])
 }
 
 // The response of task `i` beside its partition table. Refusals 1 and 9.

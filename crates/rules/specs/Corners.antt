@@ -43,7 +43,8 @@ corners =
     ∷ (answer (firstBadPartition 1 (4 ∷ []) (1 ∷ []) (4 ∷ [])) is 0 ∷ [])
     ∷ (answer (firstBadPartition 1 (4096 ∷ []) (4096 ∷ []) (4095 ∷ [])) is [])
     ∷ (answer (firstBadPartition 1 (4097 ∷ []) (1 ∷ []) []) is 0 ∷ [])
-    -- 65 tasks; a task of a partition that isn't there; a cost above its gap
+    -- no tasks; 65 tasks; a task of a partition that isn't there; a cost above its gap
+    ∷ (answer (firstBadTask 1 0 [] [] []) is [])
     ∷ (answer (firstBadTask 1 65 [] [] []) is 64 ∷ [])
     ∷ (answer (firstBadTask 1 2 (0 ∷ 1 ∷ []) (5 ∷ 5 ∷ []) (2 ∷ 2 ∷ [])) is 1 ∷ [])
     ∷ (answer (firstBadTask 1 1 (0 ∷ []) (5 ∷ []) (6 ∷ [])) is 0 ∷ [])

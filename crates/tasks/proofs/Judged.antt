@@ -1,12 +1,12 @@
 -- From one task in range to all of them, and to one that is asked for.
 use Prim.Native.Nat.{ℕ, _≤_, _<_}
 use mathlib.Core.Path.{_≡_, refl, sym, _∙_}
-use mathlib.Core.Bool.{Bool, true, false, not, _&&_}
+use mathlib.Core.Bool.{Bool, false, not}
 use mathlib.Core.List.{List, [], _∷_}
 use mathlib.Core.Option.{some, none}
 use native.Mathlib.Omega.{arith}
 use borrow.Author.Tests.{le-leb, lt-ltb, le-ltb}
-use lib.Dec.{leb, ltb}
+use lib.Dec.{leb}
 use Rattle.basis.specs.Words.{_!_, within, first}
 use Rattle.rules.specs.Numbers.{taskInRange, firstBadTask, TasksInRange}
 use Rattle.rules.specs.Refusals.{badTasks, refusal}

@@ -1,15 +1,14 @@
 use Prim.Native.Nat.{_+_, _-_}
-use native.Mathlib.Omega.{arith}
 use borrow.Author.Needs.{needs}
 use Rattle.responses.proofs.Repetition.{Going, going-begins, going-still, going-nearer, going-on, going-late}
 use Rattle.responses.proofs.settled.Statement.{statement}
 use Rattle.responses.proofs.settled.Tie as tie
 
 abbrev Inv-loop : tie.InvT-loop
-Inv-loop partition gap cost i h p e period budget away limit own r₀ r = Going period budget partition gap cost i h (record { p = p; e = e }) r
+Inv-loop partition gap cost i x period budget away limit own r₀ r = Going period budget partition gap cost i (x .partition) (record { p = x .gap; e = x .cost }) r
 
 abbrev μ-loop : tie.MeasureT-loop
-μ-loop partition gap cost i h p e period budget away limit own r₀ r = p + 1 - r
+μ-loop partition gap cost i x period budget away limit own r₀ r = x .gap + 1 - r
 
 sub-away : tie.Need-sub-away Inv-loop μ-loop
 sub-away c = search needs
@@ -17,8 +16,14 @@ sub-away c = search needs
 cast-away : tie.Need-cast-away Inv-loop μ-loop
 cast-away c = search needs
 
+cast-limit : tie.Need-cast-limit Inv-loop μ-loop
+cast-limit c = search needs
+
+cast-own : tie.Need-cast-own Inv-loop μ-loop
+cast-own c = search needs
+
 loop-holds : tie.Need-loop-holds Inv-loop μ-loop
-loop-holds c = going-begins _ _ _ _ _ _ _ _ (c .fits .e .fits)
+loop-holds c = going-begins _ _ _ _ _ _ _ _ (c .struct-known2 .given .1 .1 .0 .fits)
 
 add-loop : tie.Need-add-loop Inv-loop μ-loop
 add-loop c = search needs
@@ -58,6 +63,8 @@ settled-spec =
     μ-loop
     sub-away
     cast-away
+    cast-limit
+    cast-own
     loop-holds
     add-loop
     add-asked-above
