@@ -41,7 +41,7 @@ module _ (T B o W : ℕ) where
     product : (W - o + (T - 1)) / T * B < 8589934592
     unfolding ceil
     product =
-        let part : (W - o + (T - 1)) / T * B ≤ 131071 * 65535 = ceil-times (W - o) T B 131071 65535 some-period (omega arith) (omega arith) in
+        let part : (W - o + (T - 1)) / T * B ≤ 131071 * 65535 = ceil-times (W - o) T B 131071 65535 (omega arith) (omega arith) in
         omega arith
 
     pub product-fits : Fits w64 ((W - o + (T - 1)) / T * B)

@@ -26,7 +26,7 @@ use Rattle.ranges.specs.declared.Verdict.{Verdict}
 use Rattle.ranges.specs.declared.Verdict.the-variants as verdict
 use Rattle.laws.proofs.Refusals.{four, late-last}
 use Rattle.ranges.proofs.Verdicts.{verdict-refused, verdict-good, refused-early}
-use Rattle.ranges.proofs.Outcomes.{refused-late, not-at-all, few-of-state}
+use Rattle.ranges.proofs.Outcomes.{late-decides, few-of-state}
 use Rattle.candidates.specs.Padded.{padded}
 use Rattle.candidates.specs.Promises.{candidatesOf, SearchIs}
 use Rattle.candidates.specs.declared.Found.{Found}
@@ -184,10 +184,10 @@ module _ (n : ℕ) (T B phase b o words : List ℕ) (v : Verdict) (judged : verd
 
   pub decision-wordless : v ≡ verdict.Good → length words ≡ 0 → refused (record { number = 4; second = 0 }) ≡ Said
   unfolding unlessRefused
-  decision-wordless d e = says _ (refused-late _ _ _ four v judged d 0 (no-first-word words e))
+  decision-wordless d e = says _ (late-decides _ _ _ four v judged d (some 0) (no-first-word words e))
 
   pub decision-made : (pick : ℕ) → v ≡ verdict.Good → (length words ≡ 0 → ⊥) → ChooseIs n T B b o (words ! 0) pick → gives pick ≡ Said
   unfolding unlessRefused
   decision-made pick d some-there e =
       ap gives (chosen n T B b o (words ! 0) pick (few-of-state n T B phase b o v judged d) e)
-      ∙ says none (not-at-all _ _ _ four v judged d (first-word words some-there))
+      ∙ says none (late-decides _ _ _ four v judged d none (first-word words some-there))

@@ -1,6 +1,6 @@
 -- The quotient rounded up. The first two laws are all that the others, and every rule, need to know of division.
 use Prim.Native.Nat.{ℕ, zero, suc, _+_, _-_, _*_, _≤_, _<_}
-use mathlib.Core.Path.{_≡_, refl}
+use mathlib.Core.Path.{_≡_}
 use native.Mathlib.Nat.{div-lt-iff-lt-mul, div-zero, le-refl, le-trans, le-antisymm, mul-le-mul, zero-mul, le-of-suc-le-suc, le-of-eq}
 use native.Mathlib.Omega.{arith}
 use Rattle.basis.specs.Words.{ceil}
@@ -29,11 +29,14 @@ ceil-mono x y (suc T) h =
     ceil-le x (suc T) (ceil y (suc T)) (omega arith)
     (le-trans h (le-ceil y (suc T) (ceil y (suc T)) (omega arith) (le-refl (ceil y (suc T)))))
 
--- a quotient is at most what is divided: so far a product with it can come
-pub ceil-times : (x T B most-x most-B : ℕ) → (T ≡ 0 → ⊥) → x ≤ most-x → B ≤ most-B → ceil x T * B ≤ most-x * most-B
-ceil-times x zero B most-x most-B divides l k = absurd (divides refl)
-ceil-times x (suc T) B most-x most-B divides l k =
-    mul-le-mul (le-trans (ceil-le x (suc T) x (omega arith) (omega arith)) l) k
+-- a quotient is at most what is divided
+pub ceil-most : (x T : ℕ) → ceil x T ≤ x
+ceil-most x zero = le-trans (le-of-eq (ceil-by-zero x)) (omega arith)
+ceil-most x (suc T) = ceil-le x (suc T) x (omega arith) (omega arith)
+
+-- so a product with it comes so far
+pub ceil-times : (x T B most-x most-B : ℕ) → x ≤ most-x → B ≤ most-B → ceil x T * B ≤ most-x * most-B
+ceil-times x T B most-x most-B l k = mul-le-mul (le-trans (ceil-most x T) l) k
 
 -- what is left after one more whole divisor is taken away
 pub ceil-step : (x T : ℕ) → 0 < T → 0 < x → ceil x T ≡ suc (ceil (x - T) T)

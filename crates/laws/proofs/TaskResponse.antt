@@ -1,11 +1,11 @@
 -- The response of a task: the least r that stands still, late exactly when none does in time, and from its own partition's numbers alone.
-use Prim.Native.Nat.{ℕ, _+_, _-_, _*_, _≤_, _<_}
+use Prim.Native.Nat.{ℕ, suc, _+_, _-_, _*_, _≤_, _<_}
 use mathlib.Core.Path.{_≡_, refl, sym, _∙_, ap, ap₂}
 use mathlib.Core.Bool.{true, cond}
 use mathlib.Core.List.{List, _∷_, _++_, map, map-append, map-map}
 use mathlib.Core.Logic.{_↔_}
 use mathlib.Core.Option.{Option, some, none}
-use native.Mathlib.Nat.{le-refl, le-trans, add-le-add, mul-le-mul-right}
+use native.Mathlib.Nat.{lt-suc-self, le-refl, le-trans, add-le-add, mul-le-mul-right}
 use native.Mathlib.Omega.{arith}
 use borrow.Author.Tests.{ltb-false, le-ltb, eqb-true, eq-eqb}
 use lib.Dec.{eqb}
@@ -100,28 +100,6 @@ module _ (part p e : List ℕ) where
   unfolding ownTasks rankOf
   rank-is i = length-map (those i (λ j. eqb (part ! j) (part ! i))) (work p e)
 
-  -- the response is that of the task itself, below those before it
-  pub response-in-place : (T B : List ℕ) (m i : ℕ) → i < m
-      → responseOfTask T B m part p e i
-      ≡ ticksOrLate (T ! (part ! i)) (B ! (part ! i)) (settledResponse (T ! (part ! i)) (B ! (part ! i)) (ownTasks i part p e (part ! i)) (work p e i))
-  unfolding responseOfTask taskResponse
-  response-in-place T B m i l =
-      ap₂ (λ (above : List Work) (x : Work). ticksOrLate (T ! (part ! i)) (B ! (part ! i)) (settledResponse (T ! (part ! i)) (B ! (part ! i)) above x)) ranked own
-    where
-      before : List Work
-      before = ownTasks i part p e (part ! i)
-
-      split : (later : List Work) × (ownTasks m part p e (part ! i) ≡ before ++ work p e i ∷ later)
-      split = own-split m i l
-
-      ranked : take (rankOf part i) (ownTasks m part p e (part ! i)) ≡ before
-      ranked = ap (take (rankOf part i)) (split .1) ∙ take-at before _ (rankOf part i) (rank-is i)
-
-      own : getD (ownTasks m part p e (part ! i)) (rankOf part i) (record { p = 0; e = 0 }) ≡ work p e i
-      own =
-          ap₂ (λ (xs : List Work) (k : ℕ). getD xs k (record { p = 0; e = 0 })) (split .1) (sym (rank-is i))
-          ∙ getD-append-seam before (work p e i) (split .0) (record { p = 0; e = 0 })
-
   -- what the ranks above ask for, task by task
   pub load-is : (T B i h c r : ℕ) → load T B (ownTasks i part p e h) c r ≡ c + sumBelow i (λ j. cond (eqb (part ! j) h) (ceil (T - B + r) (p ! j) * e ! j) 0)
   unfolding load ownTasks
@@ -130,39 +108,58 @@ module _ (part p e : List ℕ) where
       (ap total (map-map (λ (x : Work). ceil (T - B + r) (x .p) * x .e) (work p e) (those i (λ j. eqb (part ! j) h)))
       ∙ total-those (λ j. ceil (T - B + r) (p ! j) * e ! j) i (λ j. eqb (part ! j) h))
 
--- ---- the answer of a task in range
-module _ (n m : ℕ) (T B part p e : List ℕ) (tasks : TasksInRange n m part p e) (i : ℕ) (l : i < m) where
+-- ---- the answer for a task
+module _ (T B part p e : List ℕ) (i : ℕ) where
   -- T and B of its partition, and the tasks above it
-  abbrev pub itsT : ℕ
+  abbrev itsT : ℕ
   itsT = T ! (part ! i)
 
-  abbrev pub itsB : ℕ
+  abbrev itsB : ℕ
   itsB = B ! (part ! i)
 
-  abbrev pub itsAbove : List Work
+  abbrev itsAbove : List Work
   itsAbove = ownTasks i part p e (part ! i)
 
-  some-cost : 1 ≤ e ! i
-  some-cost = tasks-good n m part p e tasks .each i l .cost
-
-  -- an answer that isn't 0 is T − B + r, for the least r that stands still, and is in time
-  pub true-response : (R : ℕ) → responseOfTask T B m part p e i ≡ R → (R ≡ 0 → ⊥) → (r : ℕ) × (R ≡ itsT - itsB + r) × OnTime itsT itsB itsAbove (work p e i) r
-  true-response R is some-ticks = by (settledResponse itsT itsB itsAbove (work p e i)) refl (sym (response-in-place part p e T B m i l) ∙ is)
+  -- it is that of the task itself, below those before it
+  pub response-in-place : (m : ℕ) → i < m → responseOfTask T B m part p e i ≡ ticksOrLate itsT itsB (settledResponse itsT itsB itsAbove (work p e i))
+  unfolding responseOfTask taskResponse
+  response-in-place m l = ap₂ (λ (above : List Work) (x : Work). ticksOrLate itsT itsB (settledResponse itsT itsB above x)) ranked own
     where
-      by : (a : Option ℕ) → settledResponse itsT itsB itsAbove (work p e i) ≡ a → ticksOrLate itsT itsB a ≡ R
-          → (r : ℕ) × (R ≡ itsT - itsB + r) × OnTime itsT itsB itsAbove (work p e i) r
-      by none d same = absurd (some-ticks (sym same))
-      by (some r) d same = (r, sym same, response-exactly itsT itsB itsAbove (work p e i) r .0 d)
+      split : (later : List Work) × (ownTasks m part p e (part ! i) ≡ itsAbove ++ work p e i ∷ later)
+      split = own-split part p e m i l
 
-  -- and 0 says that no r that stands still is in time
-  pub late-response : (responseOfTask T B m part p e i ≡ 0) ↔ ((r : ℕ) → nextResponse itsT itsB itsAbove (e ! i) r ≡ r → itsT - itsB + r ≤ p ! i → ⊥)
-  late-response = (
-    λ zero. late-exactly itsT itsB itsAbove (work p e i) .0 (zero-is-late itsT itsB itsAbove (work p e i) some-cost .0 (sym in-place ∙ zero)),
-    λ never. in-place ∙ zero-is-late itsT itsB itsAbove (work p e i) some-cost .1 (late-exactly itsT itsB itsAbove (work p e i) .1 never),
-  )
-    where
-      in-place : responseOfTask T B m part p e i ≡ ticksOrLate itsT itsB (settledResponse itsT itsB itsAbove (work p e i))
-      in-place = response-in-place part p e T B m i l
+      ranked : take (rankOf part i) (ownTasks m part p e (part ! i)) ≡ itsAbove
+      ranked = ap (take (rankOf part i)) (split .1) ∙ take-at itsAbove _ (rankOf part i) (rank-is part p e i)
+
+      own : getD (ownTasks m part p e (part ! i)) (rankOf part i) (record { p = 0; e = 0 }) ≡ work p e i
+      own =
+          ap₂ (λ (xs : List Work) (k : ℕ). getD xs k (record { p = 0; e = 0 })) (split .1) (sym (rank-is part p e i))
+          ∙ getD-append-seam itsAbove (work p e i) (split .0) (record { p = 0; e = 0 })
+
+  -- so the tasks after it don't count
+  pub response-so-far : (m : ℕ) → i < m → responseOfTask T B (suc i) part p e i ≡ responseOfTask T B m part p e i
+  response-so-far m l = response-in-place (suc i) (lt-suc-self i) ∙ sym (response-in-place m l)
+
+  -- in range
+  module _ (n m : ℕ) (tasks : TasksInRange n m part p e) (l : i < m) where
+    some-cost : 1 ≤ e ! i
+    some-cost = tasks-good n m part p e tasks .each i l .cost
+
+    -- an answer that isn't 0 is T − B + r, for the least r that stands still, and is in time
+    pub true-response : (R : ℕ) → responseOfTask T B m part p e i ≡ R → (R ≡ 0 → ⊥) → (r : ℕ) × (R ≡ itsT - itsB + r) × OnTime itsT itsB itsAbove (work p e i) r
+    true-response R is some-ticks = by (settledResponse itsT itsB itsAbove (work p e i)) refl (sym (response-in-place m l) ∙ is)
+      where
+        by : (a : Option ℕ) → settledResponse itsT itsB itsAbove (work p e i) ≡ a → ticksOrLate itsT itsB a ≡ R
+            → (r : ℕ) × (R ≡ itsT - itsB + r) × OnTime itsT itsB itsAbove (work p e i) r
+        by none d same = absurd (some-ticks (sym same))
+        by (some r) d same = (r, sym same, response-exactly itsT itsB itsAbove (work p e i) r .0 d)
+
+    -- and 0 says that no r that stands still is in time
+    pub late-response : (responseOfTask T B m part p e i ≡ 0) ↔ ((r : ℕ) → nextResponse itsT itsB itsAbove (e ! i) r ≡ r → itsT - itsB + r ≤ p ! i → ⊥)
+    late-response = (
+      λ zero. late-exactly itsT itsB itsAbove (work p e i) .0 (zero-is-late itsT itsB itsAbove (work p e i) some-cost .0 (sym (response-in-place m l) ∙ zero)),
+      λ nowhere. response-in-place m l ∙ zero-is-late itsT itsB itsAbove (work p e i) some-cost .1 (late-exactly itsT itsB itsAbove (work p e i) .1 nowhere),
+    )
 
 -- ---- a partition's own numbers alone
 -- Two tables of any size, each with tasks: where a task's partition has the same T, B and tasks in both, and the task the same rank, it has the same response.

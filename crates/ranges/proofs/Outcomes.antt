@@ -46,11 +46,8 @@ module _ {A : Type 0} (answer : A) {gs hs : List Ground} (turn : InTurn gs hs) (
 
 -- a verdict, and then a ground of a later number
 module _ (x y z : Option ℕ) {k : ℕ} (late : Late k) (v : Verdict) (e : verdictAs v ≡ refusal (ground 1 x ∷ ground 3 y ∷ [])) (d : v ≡ verdict.Good) where
-  pub refused-late : (s : ℕ) → z ≡ some s → refusal (ground 1 x ∷ ground 3 y ∷ ground k z ∷ []) ≡ some (record { number = k; second = s })
-  refused-late s f = left-to-others (late-last x y z late) v e d ∙ late-alone late z ∙ ap (λ (u : Option ℕ). unlessBefore k u none) f
-
-  pub not-at-all : z ≡ none → refusal (ground 1 x ∷ ground 3 y ∷ ground k z ∷ []) ≡ none
-  not-at-all f = left-to-others (late-last x y z late) v e d ∙ late-alone late z ∙ ap (λ (u : Option ℕ). unlessBefore k u none) f
+  pub late-decides : (found : Option ℕ) → z ≡ found → refusal (ground 1 x ∷ ground 3 y ∷ ground k z ∷ []) ≡ unlessBefore k found none
+  late-decides found f = left-to-others (late-last x y z late) v e d ∙ late-alone late z ∙ ap (λ (u : Option ℕ). unlessBefore k u none) f
 
 pub few-partitions : (n : ℕ) (T B phase : List ℕ) → TableInRange n T B phase → n ≤ 16
 few-partitions n T B phase t = table-good n T B phase t .not-many

@@ -1,6 +1,6 @@
 -- From the verdicts to what the call promises.
-use Prim.Native.Nat.{ℕ, _<_}
-use mathlib.Core.Path.{_≡_, sym, _∙_, ap}
+use Prim.Native.Nat.{ℕ, suc, _<_}
+use mathlib.Core.Path.{_≡_, _∙_, ap}
 use native.Mathlib.Omega.{arith}
 use Rattle.basis.specs.Words.{_!_}
 use Rattle.rules.specs.TaskResponse.{responseOfTask}
@@ -8,7 +8,7 @@ use Rattle.rules.specs.declared.Table.{Table}
 use Rattle.rules.specs.declared.Tasks.{Tasks}
 use Rattle.laws.proofs.Numbers.{table-good, tasks-good}
 use Rattle.laws.proofs.Refusals.{table-then-tasks}
-use Rattle.laws.proofs.TaskResponse.{response-in-place}
+use Rattle.laws.proofs.TaskResponse.{response-so-far}
 use Rattle.ranges.specs.Outcome.{gives}
 use Rattle.ranges.specs.Promises.{JudgeTableIs}
 use Rattle.ranges.specs.declared.Verdict.{Verdict}
@@ -16,7 +16,7 @@ use Rattle.ranges.specs.declared.Verdict.the-variants.{Good}
 use Rattle.ranges.proofs.Outcomes.{table-in-range, answers-second}
 use Rattle.tasks.specs.Promises.{JudgeTaskIs}
 use Rattle.tasks.proofs.Judged.{asked-tasks, asked-there}
-use Rattle.responses.specs.Inner.{Ready, responseInPlace}
+use Rattle.responses.specs.Inner.{Ready}
 use Rattle.responses.specs.Promises.{TaskResponseIs}
 use Rattle.responses.specs.declared.Response.the-variants.{Ticks}
 
@@ -36,7 +36,7 @@ module _ (t : Table) (k : Tasks) (i : ℕ) (v : Verdict) (judged : JudgeTableIs 
       let home = tasks .each i task-there .there in
       record { task = omega arith; home = omega arith; affordable = table .each (k .partition ! i) home .affordable }
 
-  pub responds : (r : ℕ) → r ≡ responseInPlace (t .period) (t .budget) (k .partition) (k .gap) (k .cost) i → TaskResponseIs t k i (Ticks r)
+  pub responds : (r : ℕ) → r ≡ responseOfTask (t .period) (t .budget) (suc i) (k .partition) (k .gap) (k .cost) i → TaskResponseIs t k i (Ticks r)
   responds r same =
       answers-second (responseOfTask (t .period) (t .budget) (k .count) (k .partition) (k .gap) (k .cost) i) (table-then-tasks _ _) v judged fine w asked (gives r) there
-      (ap gives (same ∙ sym (response-in-place (k .partition) (k .gap) (k .cost) (t .period) (t .budget) (k .count) i task-there)))
+      (ap gives (same ∙ response-so-far (t .period) (t .budget) (k .partition) (k .gap) (k .cost) i (k .count) task-there))

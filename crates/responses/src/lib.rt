@@ -1,12 +1,12 @@
 // The response times of tasks: how long a task takes at worst, from its own partition's numbers alone.
 ghost use mathlib.Core.Path.{_≡_};
 ghost use mathlib.Core.Bool.{cond};
-ghost use Prim.Native.Nat.{_+_, _-_, _*_, _<_, _≤_};
+ghost use Prim.Native.Nat.{suc, _+_, _*_, _<_, _≤_};
 ghost use lib.Dec.{eqb};
 ghost use Rattle.basis.specs.Words.{_!_, ceil, sumBelow};
 ghost use Rattle.basis.specs.Reckoned.{Reckoned};
-ghost use Rattle.rules.specs.TaskResponse.{settledResponse, ticksOrLate, ownTasks};
-ghost use Rattle.responses.specs.Inner.{Ready, responseInPlace};
+ghost use Rattle.rules.specs.TaskResponse.{settledResponse, ticksOrLate, ownTasks, responseOfTask};
+ghost use Rattle.responses.specs.Inner.{Ready};
 ghost use Rattle.responses.specs.Promises.{TaskResponseIs};
 use ranges::Verdict;
 use ranges::judge_table;
@@ -22,6 +22,18 @@ pub enum Response {
     Refused(Refusal),
 }
 
+// The quotient rounded up; by 0 it is 0.
+fn rounded_up(x: u64, y: u16) -> u64
+    requires { ⌜ x < 549755813888 ⌝ }
+    ensures { λ r. ⌜ Reckoned (x + 1) (ceil x y) r ⌝ }
+{
+    let by = y as u64;
+    if by == 0 {
+        return 0;
+    }
+    (x + (by - 1)) / by
+}
+
 // What a task of partition `of` asks for within a window, where that is partition `h`: ceil(window/p)·e.
 fn asked(of: u16, h: u16, gap: u16, cost: u16, window: u64) -> u64
     requires { ⌜ window < 65536 ⌝ }
@@ -30,12 +42,7 @@ fn asked(of: u16, h: u16, gap: u16, cost: u16, window: u64) -> u64
     if of != h {
         return 0;
     }
-    let p = gap as u64;
-    if p == 0 {
-        return 0;
-    }
-    let times = (window + (p - 1)) / p;
-    times * (cost as u64)
+    rounded_up(window, gap) * (cost as u64)
 }
 
 // What the tasks of partition `h` before task `i` ask for within a window.
@@ -62,12 +69,7 @@ fn served(load: u64, budget: u16, away: u64) -> u64
     requires { ⌜ (load < 549755813888) × (away < 65536) ⌝ }
     ensures { λ r. ⌜ Reckoned 36028797018963968 (load + ceil load budget * away) r ⌝ }
 {
-    let b = budget as u64;
-    if b == 0 {
-        return load;
-    }
-    let periods = (load + (b - 1)) / b;
-    load + periods * away
+    load + rounded_up(load, budget) * away
 }
 
 // From r = e, until r stands still or T − B + r exceeds p: T − B + r, or 0 for late.
@@ -98,7 +100,7 @@ fn settled<'k>(
     0
 }
 
-// The response of task `i`, over arrays.
+// The response of task `i`, over arrays; the tasks after it don't count.
 fn response_of<'t, 'k>(
     period: &'t [u16; 16],
     budget: &'t [u16; 16],
@@ -108,7 +110,7 @@ fn response_of<'t, 'k>(
     i: usize,
 ) -> u64
     requires { ⌜ Ready (now period) (now budget) (now partition) i ⌝ }
-    ensures { λ r. ⌜ r ≡ responseInPlace (now (period .entry)) (now (budget .entry)) (now (partition .entry)) (now (gap .entry)) (now (cost .entry)) i ⌝ }
+    ensures { λ r. ⌜ r ≡ responseOfTask (now (period .entry)) (now (budget .entry)) (suc i) (now (partition .entry)) (now (gap .entry)) (now (cost .entry)) i ⌝ }
 {
     let x = Task {
         partition: partition[i],

@@ -20,7 +20,7 @@ use Rattle.ranges.specs.declared.Verdict.{Verdict}
 use Rattle.ranges.specs.declared.Verdict.the-variants as verdict
 use Rattle.laws.proofs.Refusals.{seven, late-last}
 use Rattle.ranges.proofs.Verdicts.{verdict-refused, verdict-good, refused-early}
-use Rattle.ranges.proofs.Outcomes.{refused-late, not-at-all, few-of-state}
+use Rattle.ranges.proofs.Outcomes.{late-decides, few-of-state}
 use Rattle.draw.specs.Promises.{ChooseIs}
 use Rattle.draw.proofs.Calls.{chosen}
 use Rattle.draw.specs.declared.Decision.the-variants as decided
@@ -69,11 +69,11 @@ module _ (t : Table) (s : State) (v : Verdict) (judged : JudgedIs t s v) where
         → RunIs t s words buffer (record { state = s; verdict = verdict.Refused (ShortBuffer (length words)) }) buffer
     run-short words buffer l =
         no-run _ (pairs s) buffer _ (ShortBuffer (length words))
-        (refused-late _ _ _ seven v judged good (length words) (ap (λ (a : Bool). unless a (length words)) (lt-leb (length words) (length buffer) l)))
+        (late-decides _ _ _ seven v judged good (some (length words)) (ap (λ (a : Bool). unless a (length words)) (lt-leb (length words) (length buffer) l)))
 
     pub run-made : (words buffer : List ℕ) (f : State) (last : List ℕ) → length words ≤ length buffer
         → Filled (t .count) (t .period) (t .budget) s words buffer f last → RunIs t s words buffer (record { state = f; verdict = verdict.Good }) last
     run-made words buffer f last l filled =
         a-run _ (pairs s) buffer _ (pairs f) last
-        (not-at-all _ _ _ seven v judged good (ap (λ (a : Bool). unless a (length words)) (le-leb (length words) (length buffer) l)))
+        (late-decides _ _ _ seven v judged good none (ap (λ (a : Bool). unless a (length words)) (le-leb (length words) (length buffer) l)))
         (filled .after) (filled .picks)

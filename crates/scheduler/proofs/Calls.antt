@@ -23,7 +23,7 @@ use Rattle.laws.proofs.Refusals.{no-ground, refused-first, refused-then, table-
 use Rattle.ranges.specs.declared.Verdict.{Verdict}
 use Rattle.ranges.specs.declared.Verdict.the-variants as verdict
 use Rattle.ranges.proofs.Verdicts.{refused-early}
-use Rattle.ranges.proofs.Outcomes.{refused-late, not-at-all, few-of-state, was-refused, was-given, few-partitions}
+use Rattle.ranges.proofs.Outcomes.{late-decides, few-of-state, was-refused, was-given, few-partitions}
 use Rattle.standing.specs.Answers.{testAs}
 use Rattle.standing.specs.Promises.{AdmissionIs}
 use Rattle.standing.specs.declared.Test.{Test}
@@ -91,16 +91,16 @@ module _ (t : Table) (s : State) (v : Verdict) (judged : JudgedIs t s v) (r : Ch
         → changedAs r ≡ kept (pairs s) (refusedAs (NotListed pick)) → TickIs t s pick r
     tick-unlisted pick m e off =
         unchanged _ (pairs s) _ r (NotListed pick)
-        (refused-late _ _ _ five v judged good pick (ap (λ (a : Bool). unless a pick) (sym (allowed pick m e) ∙ not-true m off)))
+        (late-decides _ _ _ five v judged good (some pick) (ap (λ (a : Bool). unless a pick) (sym (allowed pick m e) ∙ not-true m off)))
 
     pub tick-made : (pick : ℕ) (m : Bool) (f : State) → MemberIs (t .count) (t .period) (t .budget) (s .b) (s .o) pick m → not m ≡ false
         → TickedIs (t .count) (t .period) (t .budget) s pick f → changedAs r ≡ made (pairs f) → TickIs t s pick r
     tick-made pick m f e on =
-        changed _ (pairs s) _ r (pairs f) (not-at-all _ _ _ five v judged good (ap (λ (a : Bool). unless a pick) (sym (allowed pick m e) ∙ not-false m on)))
+        changed _ (pairs s) _ r (pairs f) (late-decides _ _ _ five v judged good none (ap (λ (a : Bool). unless a pick) (sym (allowed pick m e) ∙ not-false m on)))
 
     -- the index is active, or not
     inactive : (i : ℕ) → releaseAllowed (t .count) (s .b) i ≡ false → changedAs r ≡ kept (pairs s) (refusedAs (NotActive i)) → ReleaseIs t s i r
-    inactive i e = unchanged _ (pairs s) _ r (NotActive i) (refused-late _ _ _ six v judged good i (ap (λ (a : Bool). unless a i) e))
+    inactive i e = unchanged _ (pairs s) _ r (NotActive i) (late-decides _ _ _ six v judged good (some i) (ap (λ (a : Bool). unless a i) e))
 
     pub release-absent : (i : ℕ) → t .count ≤ i → changedAs r ≡ kept (pairs s) (refusedAs (NotActive i)) → ReleaseIs t s i r
     unfolding releaseAllowed
@@ -117,7 +117,7 @@ module _ (t : Table) (s : State) (v : Verdict) (judged : JudgedIs t s v) (r : Ch
     pub release-made : (i : ℕ) → i < t .count → (s .b ! i ≡ 0 → ⊥) → changedAs r ≡ made (record { b = set (s .b) i 0; o = s .o }) → ReleaseIs t s i r
     unfolding release active
     release-made i l some-left =
-        changed _ (pairs s) _ r _ (not-at-all _ _ _ six v judged good (ap (λ (a : Bool). unless a i) (there i l ∙ lt-ltb 0 (s .b ! i) (omega arith)))) refl
+        changed _ (pairs s) _ r _ (late-decides _ _ _ six v judged good none (ap (λ (a : Bool). unless a i) (there i l ∙ lt-ltb 0 (s .b ! i) (omega arith)))) refl
 
 pub index-small : (t : Table) (s : State) (v : Verdict) → JudgedIs t s v → v ≡ verdict.Good → (i : ℕ) → i < t .count → i < 16
 index-small t s v judged good i l = let most = few-of-state _ _ _ _ _ _ v judged good in omega arith
