@@ -4,15 +4,15 @@ use mathlib.Core.Path.{_≡_, sym, _∙_, ap, fun-ext}
 use mathlib.Core.Bool.{Bool, true, false, cond}
 use mathlib.Core.List.{List}
 use mathlib.Core.Option.{Option, some, none}
-use native.Mathlib.Nat.{le-refl, le-trans, add-le-add}
+use native.Mathlib.Nat.{le-refl, add-le-add}
 use native.Mathlib.Omega.{arith}
-use borrow.Author.Tests.{ltb-false, lt-ltb, le-ltb}
+use borrow.Author.Tests.{lt-ltb, le-ltb}
 use lib.Dec.{ltb}
 use Rattle.basis.specs.Words.{_!_, sumBelow, settle}
 use Rattle.basis.specs.Reckoned.{Reckoned}
 use Rattle.rules.specs.BusyLength.{active, busyStart, refill, busySum, deadline, busyTest}
 use Rattle.laws.proofs.Totals.{sum-mono, sum-one-more}
-use Rattle.laws.proofs.Settle.{Rising, Start, Repeating, repeating-begins, repeated-past, repeated-still, repeating-on, repeating-nearer}
+use Rattle.laws.proofs.Settle.{Rising, Start, up-to, Repeating, repeating-begins, repeated-past, repeated-still, repeating-on, repeating-nearer}
 use Rattle.laws.proofs.BusyLength.{refill-mono}
 use Rattle.busy.specs.Inner.{filling}
 
@@ -37,13 +37,7 @@ module _ (T B o : List ℕ) (top start D : ℕ) where
 
   started : Start (filling T B o top start) (ltb D) D start
   unfolding filling
-  started =
-      record {
-        rising = filling-rising;
-        bound = λ x y l near. le-ltb D x (le-trans l (ltb-false D y near));
-        limit = λ x near. ltb-false D x near;
-        lowest = λ x. omega arith;
-      }
+  started = up-to (filling T B o top start) D start filling-rising (λ x. omega arith)
 
   -- what the repetition answers
   abbrev pub Settles : Option ℕ

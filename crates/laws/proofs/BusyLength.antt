@@ -5,14 +5,14 @@ use mathlib.Core.Bool.{Bool, true, false, cond}
 use mathlib.Core.List.{List}
 use mathlib.Core.Logic.{_↔_}
 use mathlib.Core.Option.{some}
-use native.Mathlib.Nat.{le-refl, le-trans, le-of-eq, add-le-add, mul-le-mul-right, zero-mul}
+use native.Mathlib.Nat.{le-refl, le-of-eq, add-le-add, mul-le-mul-right, zero-mul}
 use native.Mathlib.Omega.{arith}
 use borrow.Author.Tests.{ltb-true, ltb-false, le-ltb}
 use lib.Dec.{ltb}
 use Rattle.basis.specs.Words.{_!_, sumBelow, found}
 use Rattle.laws.proofs.Tests.{found-some}
 use Rattle.laws.proofs.Totals.{sum-mono, sum-none}
-use Rattle.laws.proofs.Settle.{Rising, Bound, Start, settles-finds, settles-exactly}
+use Rattle.laws.proofs.Settle.{Rising, Start, up-to, settles-finds, settles-exactly}
 use Rattle.rules.specs.BusyLength.{active, busyStart, refill, busySum, deadline, IsBusyLength, busyTest, passes}
 use Rattle.laws.proofs.Arrivals.{arrivals-mono, arrivals-none}
 
@@ -24,9 +24,6 @@ active-some b h p = ltb-true 0 (b ! h) p
 pub inactive-empty : (b : List ℕ) (h : ℕ) → active b h ≡ false → b ! h ≡ 0
 unfolding active
 inactive-empty b h p = let none-left = ltb-false 0 (b ! h) p in omega arith
-
-bounded : (D : ℕ) → Bound (ltb D)
-bounded D x y h p = le-ltb D x (le-trans h (ltb-false D y p))
 
 cond-mono : (t : Bool) {x y : ℕ} → x ≤ y → cond t 0 x ≤ cond t 0 y
 cond-mono true h = le-refl 0
@@ -55,7 +52,7 @@ module _ (T B b o : List ℕ) where
     pub within : W ≤ deadline T b o h
 
   started : (h w : ℕ) → Start (busySum T B b o h w) (ltb (deadline T b o h)) (deadline T b o h) (busyStart b h w)
-  started h w = record { rising = sum-rising h w; bound = bounded (deadline T b o h); limit = λ W near. ltb-false _ W near; lowest = start-le-sum h w }
+  started h w = up-to (busySum T B b o h w) (deadline T b o h) (busyStart b h w) (sum-rising h w) (start-le-sum h w)
 
   -- the repetition finds the least fixed point
   pub test-exactly : (h w W : ℕ) → (busyTest T B b o h w ≡ some W) ↔ Length h w W

@@ -233,6 +233,10 @@ pub table-alone : Alone 1
 unfolding refusal
 table-alone z = refl
 
+pub state-alone : Alone 3
+unfolding refusal
+state-alone z = refl
+
 pub tasks-alone : Alone 9
 unfolding refusal
 tasks-alone z = refl

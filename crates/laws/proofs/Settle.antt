@@ -6,8 +6,8 @@ use mathlib.Core.Option.{Option, some, none}
 use mathlib.Core.Logic.{_↔_}
 use native.Mathlib.Nat.{le-trans, le-antisymm, le-of-eq}
 use native.Mathlib.Omega.{arith}
-use borrow.Author.Tests.{eqb-true, eqb-false, eq-eqb, ne-eqb}
-use lib.Dec.{eqb}
+use borrow.Author.Tests.{ltb-false, le-ltb, eqb-true, eqb-false, eq-eqb, ne-eqb}
+use lib.Dec.{eqb, ltb}
 use Rattle.basis.specs.Words.{Least, settle}
 use Rattle.laws.proofs.Tests.{never, none-is-some, some-is-none}
 
@@ -77,6 +77,16 @@ pub record Start (f : ℕ → ℕ) (past : ℕ → Bool) (D x : ℕ) : Type 0 wh
   -- D is a number that all within the bound are at most
   pub limit : (z : ℕ) → past z ≡ false → z ≤ D
   pub lowest : (z : ℕ) → x ≤ f z
+
+-- the bound may be a number
+pub up-to : (f : ℕ → ℕ) (D x : ℕ) → Rising f → ((z : ℕ) → x ≤ f z) → Start f (ltb D) D x
+up-to f D x rising lowest =
+    record {
+      rising = rising;
+      bound = λ y z l near. le-ltb D y (le-trans l (ltb-false D z near));
+      limit = λ z near. ltb-false D z near;
+      lowest = lowest;
+    }
 
 module _ {f : ℕ → ℕ} {past : ℕ → Bool} {D x : ℕ} (start : Start f past D x) where
   pub settles-finds : (z : ℕ) → f z ≤ z → past z ≡ false → (y : ℕ) × (settle (suc D) f past x ≡ some y)

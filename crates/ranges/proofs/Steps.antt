@@ -1,19 +1,20 @@
 -- What the tests of this crate's functions amount to, in the shape in which the proofs ask it.
 use Prim.Native.Nat.{ℕ, _≤_, _<_}
-use mathlib.Core.Path.{_≡_, sym, _∙_, ap}
+use mathlib.Core.Path.{_≡_, refl, sym, _∙_, ap}
 use mathlib.Core.Bool.{Bool, true, false, not, _&&_}
-use mathlib.Core.List.{List, [], _∷_}
+use mathlib.Core.List.{List}
 use mathlib.Core.Option.{some, none}
 use native.Mathlib.Omega.{arith}
 use borrow.Author.Tests.{le-leb, lt-leb, lt-ltb, le-ltb, eq-eqb, ne-eqb, not-true, not-false}
 use lib.Dec.{leb, eqb}
 use Rattle.basis.specs.Words.{_!_, within, first}
 use Rattle.rules.specs.Numbers.{partitionInRange, firstBadPartition, pairInRange, firstBadPair}
-use Rattle.rules.specs.Refusals.{badTable, badState, refusal, unlessBefore}
 use Rattle.rules.specs.declared.Refusal.the-variants.{BadPartition, BadPair}
-use Rattle.ranges.specs.Verdicts.{verdictAs}
+use Rattle.ranges.specs.Promises.{JudgeTableIs, JudgeStateIs}
 use Rattle.ranges.specs.declared.Verdict.the-variants as verdict
 use Rattle.laws.proofs.Tests.{off-left}
+use Rattle.laws.proofs.Refusals.{table-alone, state-alone}
+use Rattle.ranges.proofs.Verdicts.{says-bad, says-good}
 
 pub too-low : (low high x : ℕ) → x < low → false ≡ within low high x
 too-low low high x l = sym (rw (lt-leb low x l))
@@ -54,34 +55,32 @@ module _ (n : ℕ) (T B phase : List ℕ) where
   abbrev pub partition : ℕ → Bool
   partition i = partitionInRange (T ! i) (B ! i) (phase ! i)
 
-  pub none-there : n ≡ 0 → verdictAs (verdict.Refused (BadPartition 0)) ≡ refusal (badTable n T B phase ∷ [])
-  unfolding verdictAs refusal firstBadPartition
-  none-there e = rw (eq-eqb n 0 e)
+  pub none-there : n ≡ 0 → JudgeTableIs n T B phase (verdict.Refused (BadPartition 0))
+  unfolding firstBadPartition
+  none-there e = says-bad 1 table-alone _ (BadPartition 0) 0 refl (rw (eq-eqb n 0 e))
 
   module _ (some-there : n ≡ 0 → ⊥) where
-    pub too-many : 16 < n → verdictAs (verdict.Refused (BadPartition 16)) ≡ refusal (badTable n T B phase ∷ [])
-    unfolding verdictAs refusal firstBadPartition
-    too-many l = rw (ne-eqb n 0 some-there, lt-ltb 16 n l)
+    pub too-many : 16 < n → JudgeTableIs n T B phase (verdict.Refused (BadPartition 16))
+    unfolding firstBadPartition
+    too-many l = says-bad 1 table-alone _ (BadPartition 16) 16 refl (rw (ne-eqb n 0 some-there, lt-ltb 16 n l))
 
     module _ (not-many : n ≤ 16) where
-      by-fields : refusal (badTable n T B phase ∷ []) ≡ unlessBefore 1 (first n (λ i. not (partition i))) none
-      unfolding refusal firstBadPartition
+      by-fields : firstBadPartition n T B phase ≡ first n (λ i. not (partition i))
+      unfolding firstBadPartition
       by-fields = rw (ne-eqb n 0 some-there, le-ltb 16 n not-many)
 
-      pub bad-table : (i : ℕ) → first n (λ j. not (partition j)) ≡ some i → verdictAs (verdict.Refused (BadPartition i)) ≡ refusal (badTable n T B phase ∷ [])
-      unfolding verdictAs
-      bad-table i e = sym (by-fields ∙ rw e)
+      pub bad-table : (i : ℕ) → first n (λ j. not (partition j)) ≡ some i → JudgeTableIs n T B phase (verdict.Refused (BadPartition i))
+      bad-table i e = says-bad 1 table-alone _ (BadPartition i) i refl (by-fields ∙ e)
 
-      pub good-table : first n (λ j. not (partition j)) ≡ none → verdictAs verdict.Good ≡ refusal (badTable n T B phase ∷ [])
-      unfolding verdictAs
-      good-table e = sym (by-fields ∙ rw e)
+      pub good-table : first n (λ j. not (partition j)) ≡ none → JudgeTableIs n T B phase verdict.Good
+      good-table e = says-good 1 table-alone _ (by-fields ∙ e)
 
 -- ---- judging a state, pair by pair
 module _ (n : ℕ) (T B b o : List ℕ) where
-  pub bad-state : (i : ℕ) → first 16 (λ j. not (pairInRange n T B b o j)) ≡ some i → verdictAs (verdict.Refused (BadPair i)) ≡ refusal (badState n T B b o ∷ [])
-  unfolding verdictAs refusal firstBadPair
-  bad-state i e = rw e
+  pub bad-state : (i : ℕ) → first 16 (λ j. not (pairInRange n T B b o j)) ≡ some i → JudgeStateIs n T B b o (verdict.Refused (BadPair i))
+  unfolding firstBadPair
+  bad-state i e = says-bad 3 state-alone _ (BadPair i) i refl e
 
-  pub good-state : first 16 (λ j. not (pairInRange n T B b o j)) ≡ none → verdictAs verdict.Good ≡ refusal (badState n T B b o ∷ [])
-  unfolding verdictAs refusal firstBadPair
-  good-state e = rw e
+  pub good-state : first 16 (λ j. not (pairInRange n T B b o j)) ≡ none → JudgeStateIs n T B b o verdict.Good
+  unfolding firstBadPair
+  good-state e = says-good 3 state-alone _ e

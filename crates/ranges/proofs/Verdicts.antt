@@ -1,4 +1,4 @@
--- Going on from a verdict: what was refused stays refused, and where there was nothing against it, what comes later decides.
+-- From what is found to a verdict, and on from one: what was refused stays refused, and where there was nothing against it, what comes later decides.
 use Prim.Native.Nat.{ℕ, _≤_, _<_}
 use mathlib.Core.Path.{_≡_, refl, sym, _∙_, ap}
 use mathlib.Core.Bool.{Bool}
@@ -27,6 +27,14 @@ pub verdict-good : (v : Verdict) → v ≡ verdict.Good → verdictAs v ≡ none
 unfolding verdictAs
 verdict-good v e = ap verdictAs e
 
+-- a ground by itself: what it finds is the verdict
+module _ (k : ℕ) (alone : Alone k) (x : Option ℕ) where
+  pub says-bad : (r : Refusal) (i : ℕ) → refusedAs r ≡ record { number = k; second = i } → x ≡ some i → verdictAs (verdict.Refused r) ≡ refusal (ground k x ∷ [])
+  says-bad r i named found = verdict-refused (verdict.Refused r) r refl ∙ ap some named ∙ sym (alone x ∙ ap (λ (y : Option ℕ). unlessBefore k y none) found)
+
+  pub says-good : x ≡ none → verdictAs verdict.Good ≡ refusal (ground k x ∷ [])
+  says-good nothing = verdict-good verdict.Good refl ∙ sym (alone x ∙ ap (λ (y : Option ℕ). unlessBefore k y none) nothing)
+
 -- some grounds are judged by a verdict, the others after it
 module _ {gs hs : List Ground} (turn : InTurn gs hs) (v : Verdict) (e : verdictAs v ≡ refusal gs) where
   pub refused-early : (r : Refusal) → v ≡ verdict.Refused r → refusal (gs ++ hs) ≡ some (refusedAs r)
@@ -51,23 +59,19 @@ module _ (k : ℕ) (alone : Alone k) (n h : ℕ) (fields : Option ℕ) (v : Verd
       go none same = some-is-none (same ∙ alone none)
 
   module _ (d : v ≡ verdict.Good) where
-    no-fields : refusal (ground k (orElse fields (unless (ltb h n) h)) ∷ []) ≡ unlessBefore k (unless (ltb h n) h) none
-    no-fields = go fields (sym e ∙ verdict-good v d)
+    no-fields : (other : Option ℕ) → orElse fields other ≡ other
+    no-fields other = go fields (sym e ∙ verdict-good v d)
       where
-        go : (x : Option ℕ) → refusal (ground k x ∷ []) ≡ none → refusal (ground k (orElse x (unless (ltb h n) h)) ∷ []) ≡ unlessBefore k (unless (ltb h n) h) none
+        go : (x : Option ℕ) → refusal (ground k x ∷ []) ≡ none → orElse x other ≡ other
         go (some i) same = some-is-none (sym (alone (some i)) ∙ same)
-        go none same = alone (unless (ltb h n) h)
+        go none same = refl
 
     pub judged-absent : (r : Refusal) → refusedAs r ≡ record { number = k; second = h } → n ≤ h
         → verdictAs (verdict.Refused r) ≡ refusal (ground k (orElse fields (unless (ltb h n) h)) ∷ [])
-    judged-absent r named l =
-        verdict-refused (verdict.Refused r) r refl
-        ∙ ap some named
-        ∙ sym (no-fields ∙ ap (λ (t : Bool). unlessBefore k (unless t h) none) (le-ltb h n l))
+    judged-absent r named l = says-bad k alone _ r h named (no-fields _ ∙ ap (λ (t : Bool). unless t h) (le-ltb h n l))
 
     pub judged-there : h < n → verdictAs verdict.Good ≡ refusal (ground k (orElse fields (unless (ltb h n) h)) ∷ [])
-    judged-there l =
-        verdict-good verdict.Good refl ∙ sym (no-fields ∙ ap (λ (t : Bool). unlessBefore k (unless t h) none) (lt-ltb h n l))
+    judged-there l = says-good k alone _ (no-fields _ ∙ ap (λ (t : Bool). unless t h) (lt-ltb h n l))
 
 -- and back: where such a verdict is good, the fields are, and what is asked for is there
 module _ (k : ℕ) (alone : Alone k) (n h : ℕ) (fields : Option ℕ) (v : Verdict) (e : verdictAs v ≡ refusal (ground k (orElse fields (unless (ltb h n) h)) ∷ [])) where

@@ -2,22 +2,20 @@
 use Prim.Native.Nat.{ℕ, _≤_, _<_}
 use mathlib.Core.Path.{_≡_, refl, sym, _∙_}
 use mathlib.Core.Bool.{Bool, false, not}
-use mathlib.Core.List.{List, [], _∷_}
+use mathlib.Core.List.{List}
 use mathlib.Core.Option.{some, none}
 use native.Mathlib.Omega.{arith}
 use borrow.Author.Tests.{le-leb, lt-ltb, le-ltb}
 use lib.Dec.{leb}
 use Rattle.basis.specs.Words.{_!_, within, first}
 use Rattle.rules.specs.Numbers.{taskInRange, firstBadTask, TasksInRange}
-use Rattle.rules.specs.Refusals.{badTasks, refusal}
 use Rattle.rules.specs.declared.Refusal.{Refusal}
 use Rattle.rules.specs.declared.Refusal.the-variants.{BadTask}
 use Rattle.laws.proofs.Tests.{is-within}
 use Rattle.laws.proofs.Refusals.{tasks-alone}
-use Rattle.ranges.specs.Verdicts.{verdictAs}
 use Rattle.ranges.specs.declared.Verdict.{Verdict}
 use Rattle.ranges.specs.declared.Verdict.the-variants as verdict
-use Rattle.ranges.proofs.Verdicts.{judged-fields, judged-absent, judged-there, asked-good}
+use Rattle.ranges.proofs.Verdicts.{says-bad, says-good, judged-fields, judged-absent, judged-there, asked-good}
 use Rattle.tasks.specs.Promises.{JudgeTasksIs, JudgeTaskIs}
 
 -- ---- the tests of one task
@@ -48,18 +46,20 @@ module _ (n m : ℕ) (part p e : List ℕ) where
   abbrev pub task : ℕ → Bool
   task i = taskInRange n (part ! i) (p ! i) (e ! i)
 
-  pub too-many-tasks : 64 < m → verdictAs (verdict.Refused (BadTask 64)) ≡ refusal (badTasks n m part p e ∷ [])
-  unfolding verdictAs refusal firstBadTask
-  too-many-tasks l = rw (lt-ltb 64 m l)
+  pub too-many-tasks : 64 < m → JudgeTasksIs n m part p e (verdict.Refused (BadTask 64))
+  unfolding firstBadTask
+  too-many-tasks l = says-bad 9 tasks-alone _ (BadTask 64) 64 refl (rw (lt-ltb 64 m l))
 
   module _ (few : m ≤ 64) where
-    pub bad-tasks : (i : ℕ) → first m (λ j. not (task j)) ≡ some i → verdictAs (verdict.Refused (BadTask i)) ≡ refusal (badTasks n m part p e ∷ [])
-    unfolding verdictAs refusal firstBadTask
-    bad-tasks i found = rw (le-ltb 64 m few, found)
+    by-fields : firstBadTask n m part p e ≡ first m (λ i. not (task i))
+    unfolding firstBadTask
+    by-fields = rw (le-ltb 64 m few)
 
-    pub good-tasks : first m (λ j. not (task j)) ≡ none → verdictAs verdict.Good ≡ refusal (badTasks n m part p e ∷ [])
-    unfolding verdictAs refusal firstBadTask
-    good-tasks none-bad = rw (le-ltb 64 m few, none-bad)
+    pub bad-tasks : (i : ℕ) → first m (λ j. not (task j)) ≡ some i → JudgeTasksIs n m part p e (verdict.Refused (BadTask i))
+    bad-tasks i found = says-bad 9 tasks-alone _ (BadTask i) i refl (by-fields ∙ found)
+
+    pub good-tasks : first m (λ j. not (task j)) ≡ none → JudgeTasksIs n m part p e verdict.Good
+    good-tasks none-bad = says-good 9 tasks-alone _ (by-fields ∙ none-bad)
 
 -- ---- and one that is asked for
 module _ (n m : ℕ) (part p e : List ℕ) (i : ℕ) (v : Verdict) (judged : JudgeTasksIs n m part p e v) where
