@@ -37,7 +37,7 @@ module _ (T B o W : ℕ) where
   unfolding arrivals
   none-ever e = record { is = sym (rw (e, ceil-by-zero (W - o)) (zero-mul B)); small = omega arith }
 
-  module _ (more : o < W) (near : W < 131072) (some-period : T ≡ 0 → ⊥) (small : B < 65536) where
+  module _ (near : W < 131072) (small : B < 65536) where
     product : (W - o + (T - 1)) / T * B < 8589934592
     unfolding ceil
     product =
