@@ -61,6 +61,7 @@ table-good n T B phase p = go (eqb n 0) refl (ltb mostPartitions n) refl p
 pub record GoodTask (n partition p e : ℕ) : Type 0 where
   pub there : partition < n
   pub gap : 1 ≤ p
+  pub longest : p ≤ 65535
   pub cost : 1 ≤ e
   pub affordable : e ≤ p
 
@@ -76,6 +77,7 @@ task-good n partition p e q =
     record {
       there = ltb-true partition n (and-left _ _ fields);
       gap = within-low 1 65535 p (and-right (ltb partition n) _ fields);
+      longest = within-high 1 65535 p (and-right (ltb partition n) _ fields);
       cost = within-low 1 p e last;
       affordable = within-high 1 p e last;
     }

@@ -113,7 +113,7 @@ corners =
     -- a task that isn't there, asked for, is 9 with its index, unless a field is bad: that of a task whose partition isn't there
     ∷ (refused (refusal (badTasksOrIndex 1 1 (0 ∷ []) (5 ∷ []) (2 ∷ []) 7 ∷ [])) is 9 ∷ 7 ∷ [])
     ∷ (refused (refusal (badTasksOrIndex 1 1 (1 ∷ []) (5 ∷ []) (2 ∷ []) 7 ∷ [])) is 9 ∷ 0 ∷ [])
-    -- no word, and a buffer that is one too short
+    -- no word; a buffer that is one too short, and one that is just long enough
     ∷ (refused (refusal (noWord [] ∷ [])) is 4 ∷ 0 ∷ [])
     ∷ (refused (refusal (shortBuffer 6 5 ∷ [])) is 7 ∷ 6 ∷ [])
     ∷ (refused (refusal (shortBuffer 6 6 ∷ [])) is [])

@@ -1,4 +1,4 @@
-// The figures of 000 and 01 that no theorem has, run through the calls: each is printed beside what the paper says.
+// Figures of 000 and 01, run through the calls: each is printed beside what the paper says.
 ghost use Prim.Native.Nat.{_<_, _≤_};
 use draw::weights;
 use libc::STDOUT_FILENO;
@@ -80,8 +80,9 @@ fn five_partitions() -> Table {
     }
 }
 
-fn five_tasks_each() -> Tasks {
-    let gaps = [
+// The gaps of the five tasks of each partition.
+fn gaps() -> [u16; 25] {
+    [
         400u16,
         800,
         1600,
@@ -107,7 +108,11 @@ fn five_tasks_each() -> Tasks {
         4800,
         9600,
         19200,
-    ];
+    ]
+}
+
+fn five_tasks_each() -> Tasks {
+    let gaps = gaps();
     let mut partition = [0u16; 64];
     let mut gap = [0u16; 64];
     let mut cost = [0u16; 64];
@@ -124,23 +129,9 @@ fn five_tasks_each() -> Tasks {
     }
 }
 
-// A task by 000's numbers, and its response.
-fn show_response(i: usize, said: Response, paper: u64) {
-    let Response::Ticks(ticks) = said else {
-        text(b"refused\n");
-        return;
-    };
-    number((i / 5 + 1) as u64);
-    text(b",");
-    let rank = [digit((i % 5 + 1) as u64, true)];
-    text(&rank);
-    tenths(ticks);
-    hundredths(paper);
-    text(b"\n");
-}
-
-fn table_two(t: Table, tasks: Tasks) {
-    let paper = [
+// What 000 has in table II for TimeDice, analytic, in hundredths of a millisecond.
+fn table_two() -> [u64; 25] {
+    [
         3480u64,
         5520,
         7680,
@@ -166,7 +157,26 @@ fn table_two(t: Table, tasks: Tasks) {
         23040,
         70560,
         185040,
-    ];
+    ]
+}
+
+// A task by 000's numbers, and its response.
+fn show_response(i: usize, said: Response, paper: u64) {
+    let Response::Ticks(ticks) = said else {
+        text(b"refused\n");
+        return;
+    };
+    number((i / 5 + 1) as u64);
+    text(b",");
+    let rank = [digit((i % 5 + 1) as u64, true)];
+    text(&rank);
+    tenths(ticks);
+    hundredths(paper);
+    text(b"\n");
+}
+
+fn show_table_two(t: Table, tasks: Tasks) {
+    let paper = table_two();
     for i in 0..25 {
         show_response(i, task_response(t, tasks, i), paper[i]);
     }
@@ -200,7 +210,7 @@ fn show_r(h: usize, said: Length, paper: u64)
     text(b"\n");
 }
 
-fn rs(t: Table) {
+fn show_rs(t: Table) {
     let paper = [1u64, 12, 15, 20];
     for h in 0..4 {
         show_r(h, response(t, h), paper[h]);
@@ -210,7 +220,7 @@ fn rs(t: Table) {
 // ---- the weights of a fresh start, beside 65,536 times the share that 000 gives
 
 // A candidate by 000's numbers.
-fn name(pick: u8) {
+fn show_name(pick: u8) {
     if pick == 255 {
         text(b"   idle");
         return;
@@ -219,7 +229,7 @@ fn name(pick: u8) {
 }
 
 fn show_weight(pick: u8, weight: u32, share: u64) {
-    name(pick);
+    show_name(pick);
     number(weight as u64);
     hundredths(share);
     text(b"\n");
@@ -233,7 +243,7 @@ fn show_weights(list: [u8; 17], found: [u32; 17], shares: [u64; 6], listed: usiz
     }
 }
 
-fn fresh_weights(t: Table, shares: [u64; 6], listed: usize)
+fn show_fresh_weights(t: Table, shares: [u64; 6], listed: usize)
     requires { ⌜ listed ≤ 6 ⌝ }
 {
     let b = [0u16; 16];
@@ -249,7 +259,7 @@ fn fresh_weights(t: Table, shares: [u64; 6], listed: usize)
 
 // ---- a task whose r is 2^32
 
-fn late() {
+fn show_late() {
     let mut period = [0u16; 16];
     period[0] = 4096;
     let mut budget = [0u16; 16];
@@ -284,17 +294,17 @@ fn main() {
     let five = five_partitions();
     let tasks = five_tasks_each();
     text(b"000, table II: responses of tasks in ms, here and there\n");
-    table_two(five, tasks);
+    show_table_two(five, tasks);
     text(b"000, figure 5: R in ms, here and in 01\n");
-    rs(car());
+    show_rs(car());
     text(b"000, figure 5: fresh weights, here and 65536 times 000's share\n");
-    fresh_weights(car(), [655360, 3276800, 655360, 655360, 1310720, 0], 5);
+    show_fresh_weights(car(), [655360, 3276800, 655360, 655360, 1310720, 0], 5);
     text(b"000, table I: fresh weights, here and 65536 times 000's share\n");
-    fresh_weights(
+    show_fresh_weights(
         five,
         [1048576, 1048576, 1048576, 1048576, 1048576, 1310720],
         6,
     );
     text(b"a task whose r is 2^32: its response, here and in 01 (0 for late)\n");
-    late();
+    show_late();
 }

@@ -9,6 +9,9 @@ Inv-loop gaps partition₀ gap₀ cost₀ i₀ partition gap cost i = i ≤ 25
 abbrev μ-loop : tie.MeasureT-loop
 μ-loop gaps partition₀ gap₀ cost₀ i₀ partition gap cost i = 25 - i
 
+gaps-requires : tie.Need-gaps-requires Inv-loop μ-loop
+gaps-requires c κs = search needs
+
 loop-holds : tie.Need-loop-holds Inv-loop μ-loop
 loop-holds c = search needs
 
@@ -66,6 +69,7 @@ five-tasks-each-spec =
     (tie.spec
     Inv-loop
     μ-loop
+    gaps-requires
     loop-holds
     cast-partition
     mul-partition

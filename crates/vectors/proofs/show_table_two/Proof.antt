@@ -1,13 +1,16 @@
 use Prim.Native.Nat.{_-_, _≤_}
 use borrow.Author.Needs.{needs}
-use Rattle.vectors.proofs.table_two.Statement.{statement}
-use Rattle.vectors.proofs.table_two.Tie as tie
+use Rattle.vectors.proofs.show_table_two.Statement.{statement}
+use Rattle.vectors.proofs.show_table_two.Tie as tie
 
 abbrev Inv-loop : tie.InvT-loop
 Inv-loop t tasks paper i₀ i = i ≤ 25
 
 abbrev μ-loop : tie.MeasureT-loop
 μ-loop t tasks paper i₀ i = 25 - i
+
+table-two-requires : tie.Need-table-two-requires Inv-loop μ-loop
+table-two-requires c κs = search needs
 
 loop-holds : tie.Need-loop-holds Inv-loop μ-loop
 loop-holds c = search needs
@@ -36,12 +39,13 @@ loop-again c = search needs
 returns : tie.Need-returns Inv-loop μ-loop
 returns c = search needs
 
-pub table-two-spec : {M : Type 1} → statement M
-table-two-spec =
+pub show-table-two-spec : {M : Type 1} → statement M
+show-table-two-spec =
     tie.close
     (tie.spec
     Inv-loop
     μ-loop
+    table-two-requires
     loop-holds
     task-response-requires
     mul-show-response

@@ -1,7 +1,7 @@
 use Prim.Native.Nat.{_-_, _≤_}
 use borrow.Author.Needs.{needs}
-use Rattle.vectors.proofs.rs.Statement.{statement}
-use Rattle.vectors.proofs.rs.Tie as tie
+use Rattle.vectors.proofs.show_rs.Statement.{statement}
+use Rattle.vectors.proofs.show_rs.Tie as tie
 
 abbrev Inv-loop : tie.InvT-loop
 Inv-loop t paper h₀ h = h ≤ 4
@@ -36,8 +36,8 @@ loop-again c = search needs
 returns : tie.Need-returns Inv-loop μ-loop
 returns c = search needs
 
-pub rs-spec : {M : Type 1} → statement M
-rs-spec =
+pub show-rs-spec : {M : Type 1} → statement M
+show-rs-spec =
     tie.close
     (tie.spec
     Inv-loop
