@@ -4,14 +4,12 @@ use mathlib.Core.Path.{_≡_, refl, sym, _∙_, ap}
 use mathlib.Core.Bool.{Bool}
 use mathlib.Core.List.{List}
 use mathlib.Core.Option.{some}
-use native.Mathlib.Omega.{arith}
-use Rattle.rules.specs.Refusals.{Refused}
 use Rattle.rules.specs.declared.Table.{Table}
 use Rattle.rules.specs.declared.Tasks.{Tasks}
 use Rattle.laws.proofs.Tests.{none-is-some, some-is-none}
 use Rattle.laws.proofs.Refusals.{refused-injective}
-use Rattle.ranges.specs.Outcome.{Outcome, refused, gives}
 use Rattle.ranges.specs.Verdicts.{verdictAs}
+use Rattle.ranges.proofs.Outcomes.{refused-as, given-as, never-both}
 use Rattle.ranges.specs.Promises.{JudgeTableIs, JudgeIndexIs, JudgeStateIs, JudgeIs}
 use Rattle.ranges.specs.declared.Verdict.{Verdict}
 use Rattle.ranges.specs.declared.Verdict.the-variants as verdict
@@ -46,22 +44,6 @@ use Rattle.responses.specs.declared.Response.the-variants as response
 -- ---- no two cases of an enum have the same number and values
 taken : {A : Type 0} {x y : A} → some x ≡ some y → x ≡ y
 taken e = cc
-
-refused-as : {A : Type 0} {x y : Refused} → _≡_ {A = Outcome A} (refused x) (refused y) → x ≡ y
-refused-as e = cc
-
-pub given-as : {A : Type 0} {x y : A} → gives x ≡ gives y → x ≡ y
-given-as e = cc
-
-pub never-both : {A C : Type 0} {x : A} {r : Refused} → gives x ≡ refused r → C
-never-both {A} {C} {x} {r} e = absurd (differ e)
-  where
-    said : Outcome A → ℕ
-    said (gives y) = 0
-    said (refused q) = 1
-
-    differ : gives x ≡ refused r → ⊥
-    differ p = let z : _≡_ {A = ℕ} 0 1 = ap said p in omega arith
 
 pub verdict-injective : (r s : Verdict) → verdictAs r ≡ verdictAs s → r ≡ s
 unfolding verdictAs

@@ -5,7 +5,7 @@ use mathlib.Core.Bool.{Bool, true, false, cond, _&&_, _||_}
 use mathlib.Core.List.{List, [], _∷_, _++_}
 use mathlib.Core.Option.{Option, some, none}
 use lib.Dec.{leb, eqb}
-use lib.ListN.{length, getD, set}
+use lib.ListN.{length, getD, set, replicate}
 
 infixl 90 _!_
 -- what stands at a place of a list, the places counted from 0; past the end of the list 0
@@ -68,6 +68,10 @@ found none = false
 unfoldable pub filled : ℕ → (ℕ → ℕ) → List ℕ → List ℕ
 filled zero f xs = xs
 filled (suc n) f xs = set (filled n f xs) n (f n)
+
+-- the list in the places of an array, and 0 in the unused places
+unfoldable pub padded : ℕ → List ℕ → List ℕ
+padded places xs = xs ++ replicate (places - length xs) 0
 
 -- each entry of the list is larger than the one before it: in order, and none twice
 abbrev pub Increasing : List ℕ → Type 0

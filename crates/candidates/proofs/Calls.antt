@@ -8,7 +8,7 @@ use native.Mathlib.Omega.{arith}
 use borrow.Author.Tests.{lt-leb, le-leb, leb-true}
 use lib.Dec.{leb}
 use lib.ListN.{length, replicate, take}
-use Rattle.basis.specs.Words.{has}
+use Rattle.basis.specs.Words.{has, padded}
 use Rattle.rules.specs.Candidates.{candidates, inversion}
 use Rattle.rules.specs.Refusals.{Refused, Ground, refusal}
 use Rattle.rules.specs.declared.Refusal.{Refusal}
@@ -16,10 +16,9 @@ use Rattle.ranges.specs.Verdicts.{verdictAs}
 use Rattle.ranges.specs.declared.Verdict.{Verdict}
 use Rattle.ranges.specs.declared.Verdict.the-variants as verdict
 use Rattle.ranges.proofs.Verdicts.{verdict-refused, verdict-good}
-use Rattle.candidates.specs.Padded.{padded}
 use Rattle.candidates.specs.Promises.{candidatesOf, SearchIs, Listing, listing}
 use Rattle.candidates.specs.declared.Found.{Found}
-use Rattle.candidates.proofs.Places.{padded-used, padded-long}
+use Rattle.laws.proofs.Padded.{padded-used, padded-long}
 use Rattle.candidates.proofs.Nested.{candidates-short}
 
 module _ (n : ℕ) (T B b o : List ℕ) where

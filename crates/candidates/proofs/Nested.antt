@@ -11,16 +11,15 @@ use native.Mathlib.Omega.{arith}
 use borrow.Author.Tests.{lt-ltb, le-ltb, le-leb, ltb-false, ltb-true, not-true, not-false}
 use lib.Dec.{ltb, leb}
 use lib.ListN.{length, replicate, set, length-append, length-map}
-use Rattle.basis.specs.Words.{_!_, all, those, first}
+use Rattle.basis.specs.Words.{_!_, all, those, first, padded}
 use Rattle.rules.specs.BusyLength.{active, passes}
 use Rattle.rules.specs.Candidates.{mayRun, members, idleListed, candidates, idle, inversion}
 use Rattle.laws.proofs.Tests.{both, and-left, and-right, or-right, never, fails, below-or-not}
 use Rattle.laws.proofs.Places.{true-all, first-some, first-none, has-those, those-has, has-some, has-entry, those-same, map-those-same, those-short, those-stop, those-next, those-skip}
 use Rattle.laws.proofs.Candidates.{first-active-may, failure-ends}
 use Rattle.busy.specs.Promises.{PassesIs}
-use Rattle.candidates.specs.Padded.{padded}
 use Rattle.candidates.specs.Promises.{SearchIs}
-use Rattle.candidates.proofs.Places.{padded-next}
+use Rattle.laws.proofs.Padded.{padded-next}
 
 -- what small tests amount to
 pub waits-active : (n : ℕ) (b : List ℕ) (c : ℕ) → c < n → ltb 0 (b ! c) ≡ cond (ltb c n) (active b c) true

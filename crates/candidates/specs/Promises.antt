@@ -6,13 +6,12 @@ use mathlib.Core.List.{List, [], _∷_}
 use mathlib.Core.Option.{Option, some, none}
 use lib.Dec.{leb}
 use lib.ListN.{length}
-use Rattle.basis.specs.Words.{has}
+use Rattle.basis.specs.Words.{has, padded}
 use Rattle.rules.specs.Numbers.{mostPartitions}
 use Rattle.rules.specs.Candidates.{candidates, inversion}
 use Rattle.rules.specs.Refusals.{Refused, badTable, badState, refusal}
 use Rattle.rules.specs.declared.Table.{Table}
 use Rattle.ranges.specs.Verdicts.{verdictAs}
-use Rattle.candidates.specs.Padded.{padded}
 use Rattle.candidates.specs.declared.Found.{Found}
 use Rattle.candidates.specs.declared.Listed.{Listed}
 

@@ -11,7 +11,7 @@ use borrow.Author.Tests.{eq-eqb, ne-eqb, le-leb, lt-leb, leb-true, lt-ltb}
 use lib.Dec.{eqb, leb, ltb}
 use lib.ListN.{length, replicate, take}
 use lib.Seq.{getD-take}
-use Rattle.basis.specs.Words.{_!_, has, total, unless}
+use Rattle.basis.specs.Words.{_!_, has, total, unless, padded}
 use Rattle.rules.specs.Candidates.{members, idleListed, candidates, idle, inversion}
 use Rattle.rules.specs.Weights.{weight, idleWeight, memberWeights, weights}
 use Rattle.rules.specs.Pick.{position, firstExceeding, S, decision}
@@ -27,10 +27,9 @@ use Rattle.ranges.specs.declared.Verdict.the-variants as verdict
 use Rattle.laws.proofs.Refusals.{four, late-last}
 use Rattle.ranges.proofs.Verdicts.{verdict-refused, verdict-good, refused-early}
 use Rattle.ranges.proofs.Outcomes.{late-decides, few-of-state}
-use Rattle.candidates.specs.Padded.{padded}
 use Rattle.candidates.specs.Promises.{candidatesOf, SearchIs}
 use Rattle.candidates.specs.declared.Found.{Found}
-use Rattle.candidates.proofs.Places.{padded-used, padded-long}
+use Rattle.laws.proofs.Padded.{padded-used, padded-long}
 use Rattle.candidates.proofs.Calls.{found-few, found-fits, found-list}
 use Rattle.draw.specs.Inner.{weightOf, weighed, Usable, ScalesAre}
 use Rattle.draw.specs.Promises.{ChooseIs, Weighing, weighing}

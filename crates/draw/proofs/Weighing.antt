@@ -9,12 +9,11 @@ use native.Mathlib.Omega.{arith}
 use borrow.Author.Tests.{eq-eqb, ne-eqb}
 use lib.ListN.{length, replicate, set, take}
 use lib.Seq.{take-suc, length-take-le}
-use Rattle.basis.specs.Words.{_!_, total}
+use Rattle.basis.specs.Words.{_!_, total, padded}
 use Rattle.rules.specs.Candidates.{idle}
 use Rattle.rules.specs.Weights.{weight, idleWeight, weights}
 use Rattle.laws.proofs.Totals.{total-append}
-use Rattle.candidates.specs.Padded.{padded}
-use Rattle.candidates.proofs.Places.{padded-next}
+use Rattle.laws.proofs.Padded.{padded-next}
 use Rattle.draw.specs.Inner.{weightOf, weighed, Usable, ScalesAre}
 
 -- ---- one weight

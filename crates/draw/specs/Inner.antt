@@ -6,10 +6,9 @@ use mathlib.Core.List.{List, [], _∷_}
 use mathlib.Core.Logic.{_⊎_}
 use lib.Dec.{eqb}
 use lib.ListN.{length}
-use Rattle.basis.specs.Words.{_!_, total}
+use Rattle.basis.specs.Words.{_!_, total, padded}
 use Rattle.rules.specs.Candidates.{idle}
 use Rattle.rules.specs.Weights.{weight, idleWeight}
-use Rattle.candidates.specs.Padded.{padded}
 use Rattle.draw.specs.declared.Scales.{Scales}
 
 -- what a candidate weighs, where those before it weigh `sum`

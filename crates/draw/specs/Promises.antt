@@ -6,7 +6,7 @@ use mathlib.Core.List.{List, [], _∷_}
 use mathlib.Core.Option.{Option, some, none}
 use lib.Dec.{leb}
 use lib.ListN.{length}
-use Rattle.basis.specs.Words.{_!_}
+use Rattle.basis.specs.Words.{_!_, padded}
 use Rattle.rules.specs.Numbers.{mostPartitions}
 use Rattle.rules.specs.Candidates.{candidates, inversion, idle}
 use Rattle.rules.specs.Weights.{weights}
@@ -15,7 +15,6 @@ use Rattle.rules.specs.Refusals.{Refused, refusedAs, badTable, badState, noWord
 use Rattle.rules.specs.declared.Table.{Table}
 use Rattle.ranges.specs.Outcome.{Outcome, refused, gives, unlessRefused}
 use Rattle.ranges.specs.Verdicts.{verdictAs}
-use Rattle.candidates.specs.Padded.{padded}
 use Rattle.candidates.specs.Promises.{places}
 use Rattle.draw.specs.declared.Weighed.{Weighed}
 use Rattle.draw.specs.declared.Decision.{Decision}

@@ -4,6 +4,7 @@ pub mod Ceil
 pub mod Totals
 pub mod Places
 pub mod Filled
+pub mod Padded
 pub mod Settle
 -- sums as a loop makes them
 pub mod Reckoning
@@ -19,6 +20,8 @@ pub mod Pick
 pub mod Tick
 pub mod TaskResponse
 pub mod Refusals
+pub mod MeterFile
+pub mod Records
 -- a fresh start, a tick and a release give states in range
 pub mod Keeps
 -- a run is the fold of its steps

@@ -11,7 +11,7 @@ use native.Mathlib.Omega.{arith}
 use borrow.Author.Tests.{eqb-true, eq-eqb, ne-eqb}
 use lib.Dec.{eqb}
 use lib.ListN.{length, take, length-append, List·getD-append}
-use lib.Seq.{getD-append-seam, getD-take, take-suc, length-take-le}
+use lib.Seq.{getD-append-seam, getD-take, take-suc, length-take-le, take-all}
 use Rattle.basis.specs.Words.{_!_, has, all, those, first, orElse, Increasing}
 use Rattle.laws.proofs.Tests.{both, and-left, and-right, or-left, or-right, or-cases, never, below-or-not, below-cases, some-is-none, none-is-some}
 
@@ -273,6 +273,12 @@ has-take-next xs i m x y l fits before same other =
 pub has-take-here : (xs : List ℕ) (i m x y : ℕ) → i < m → m ≤ length xs → y ≡ xs ! i → y ≡ x → true ≡ has (take m xs) x
 has-take-here xs i m x y l fits same here =
     sym (subst (λ (z : ℕ). has (take m xs) z ≡ true) (getD-take m xs i 0 l ∙ sym same ∙ here) (has-entry (take m xs) i (rw (length-take-le m xs fits) l)))
+
+pub has-here : (xs : List ℕ) (i x : ℕ) → i < length xs → xs ! i ≡ x → true ≡ has xs x
+has-here xs i x l e = sym (subst (λ (z : ℕ). has xs z ≡ true) e (has-entry xs i l))
+
+pub has-nowhere : (xs : List ℕ) (i x : ℕ) → length xs ≤ i → has (take i xs) x ≡ false → false ≡ has xs x
+has-nowhere xs i x l e = sym (subst (λ (ys : List ℕ). has ys x ≡ false) (take-all i xs l) e)
 
 pub has-take-none : (xs : List ℕ) (i m x : ℕ) → m ≤ i → i ≤ m → has (take i xs) x ≡ false → false ≡ has (take m xs) x
 has-take-none xs i m x l k before = sym (subst (λ (j : ℕ). has (take j xs) x ≡ false) (le-antisymm k l) before)

@@ -5,6 +5,7 @@ use mathlib.Core.Bool.{Bool, true, false, cond, not, _&&_, _||_}
 use mathlib.Core.List.{List, [], _∷_, _++_, append-nil}
 use mathlib.Core.Logic.{⊎-elim}
 use mathlib.Core.Option.{Option, some, none, Option·some-injective}
+use native.Mathlib.Omega.{arith}
 use lib.Dec.{eqb}
 use lib.ListN.{length, take, drop, take-append-drop}
 use Rattle.basis.specs.Words.{has, those}
@@ -212,6 +213,26 @@ table-then-admission x y = record { place = 2; early = refl; late = refl }
 pub table-then-state : (x y : Option ℕ) → InTurn (ground 1 x ∷ []) (ground 3 y ∷ [])
 table-then-state x y = record { place = 2; early = refl; late = refl }
 
+-- 8 comes before all of them, and 9 before 2
+pub file-first : (x y z u : Option ℕ) → InTurn (ground 8 x ∷ []) (ground 1 y ∷ ground 9 z ∷ ground 2 u ∷ [])
+file-first x y z u = record { place = 1; early = refl; late = refl }
+
+pub record-first : (x y z u : Option ℕ) → InTurn (ground 8 x ∷ []) (ground 1 y ∷ ground 3 z ∷ ground 6 u ∷ [])
+record-first x y z u = record { place = 1; early = refl; late = refl }
+
+-- and of a line's grounds, 8, 1 and 3 come before 7 and 6
+pub line-first : (x y z u v : Option ℕ) → InTurn (ground 8 x ∷ ground 1 y ∷ ground 3 z ∷ []) (ground 7 u ∷ ground 6 v ∷ [])
+line-first x y z u v = record { place = 5; early = refl; late = refl }
+
+pub size-first : (x y z : Option ℕ) → InTurn (ground 8 x ∷ []) (ground 1 y ∷ ground 3 z ∷ [])
+size-first x y z = record { place = 1; early = refl; late = refl }
+
+pub table-first : (x y z : Option ℕ) → InTurn (ground 1 x ∷ []) (ground 9 y ∷ ground 2 z ∷ [])
+table-first x y z = record { place = 2; early = refl; late = refl }
+
+pub tasks-then-admission : (x y : Option ℕ) → InTurn (ground 9 x ∷ []) (ground 2 y ∷ [])
+tasks-then-admission x y = record { place = 3; early = refl; late = refl }
+
 -- the numbers that come after 1 and 3
 pub data Late : ℕ → Type 0 where
   four : Late 4
@@ -225,6 +246,19 @@ late-last x y z five = record { place = 5; early = refl; late = refl }
 late-last x y z six = record { place = 5; early = refl; late = refl }
 late-last x y z seven = record { place = 5; early = refl; late = refl }
 
+-- a ground that doesn't apply, and comes last, changes nothing
+pub nothing-last : (gs : List Ground) (k : ℕ) → refusal (gs ++ ground k none ∷ []) ≡ refusal gs
+unfolding refusal
+nothing-last gs k = applying-same order (gs ++ ground k none ∷ []) gs (λ m h. same gs m)
+  where
+    alone : (a : Bool) → _≡_ {A = Option ℕ} (cond a none none) none
+    alone true = refl
+    alone false = refl
+
+    same : (hs : List Ground) (m : ℕ) → appliesTo (hs ++ ground k none ∷ []) m ≡ appliesTo hs m
+    same [] m = alone (eqb k m)
+    same (h ∷ hs) m = ap (λ (x : Option ℕ). cond (eqb (h .number) m) (h .applies) x) (same hs m)
+
 -- a ground by itself
 abbrev pub Alone : ℕ → Type 0
 Alone k = (z : Option ℕ) → refusal (ground k z ∷ []) ≡ unlessBefore k z none
@@ -232,6 +266,14 @@ Alone k = (z : Option ℕ) → refusal (ground k z ∷ []) ≡ unlessBefore k z 
 pub table-alone : Alone 1
 unfolding refusal
 table-alone z = refl
+
+pub file-alone : Alone 8
+unfolding refusal
+file-alone z = refl
+
+pub admission-alone : Alone 2
+unfolding refusal
+admission-alone z = refl
 
 pub state-alone : Alone 3
 unfolding refusal
@@ -252,3 +294,62 @@ late-alone seven z = refl
 pub order-whole : (length order ≡ 9) × (those 10 (has order) ≡ 1 ∷ 2 ∷ 3 ∷ 4 ∷ 5 ∷ 6 ∷ 7 ∷ 8 ∷ 9 ∷ [])
 unfolding has those
 order-whole = (refl, refl)
+
+-- ---- a buffer comes before a release
+-- that 7, where it applies
+abbrev pub sevenOr : Option ℕ → Refused → Refused
+sevenOr (some needed) r = record { number = 7; second = needed }
+sevenOr none r = r
+
+-- of a refusal 6, the buffer's 7 where it applies
+abbrev pub sevenFirst : Option ℕ → Refused → Refused
+sevenFirst short r = cond (eqb (r .number) 6) (sevenOr short r) r
+
+module _ (x y z u v : Option ℕ) where
+  -- where 8, 1, 3 and 6 refuse, so they do beside a 7, which comes before 6 alone
+  pub seven-among : (r : Refused) → refusal (ground 8 x ∷ ground 1 y ∷ ground 3 z ∷ ground 6 v ∷ []) ≡ some r
+      → refusal (ground 8 x ∷ ground 1 y ∷ ground 3 z ∷ ground 7 u ∷ ground 6 v ∷ []) ≡ some (sevenFirst u r)
+  unfolding refusal
+  seven-among r = go x y z u v
+    where
+      swap : (q : Refused) (w : Option ℕ) → some q ≡ some r → some (sevenFirst w q) ≡ some (sevenFirst w r)
+      swap q w e = let same : q ≡ r = cc in ap (λ (p : Refused). some (sevenFirst w p)) same
+
+      go : (x y z u v : Option ℕ) → firstApplying order (ground 8 x ∷ ground 1 y ∷ ground 3 z ∷ ground 6 v ∷ []) ≡ some r
+          → firstApplying order (ground 8 x ∷ ground 1 y ∷ ground 3 z ∷ ground 7 u ∷ ground 6 v ∷ []) ≡ some (sevenFirst u r)
+      go (some i) y z u v e = swap _ u e
+      go none (some i) z u v e = swap _ u e
+      go none none (some i) u v e = swap _ u e
+      go none none none (some n) (some i) e = swap _ (some n) e
+      go none none none none (some i) e = swap _ none e
+      go none none none u none e = none-is-some e
+
+  -- a refusal 6 is that of its own ground
+  pub six-from : (r : Refused) → refusal (ground 8 x ∷ ground 1 y ∷ ground 3 z ∷ ground 6 v ∷ []) ≡ some r → r .number ≡ 6 → v ≡ some (r .second)
+  unfolding refusal
+  six-from r = go x y z v
+    where
+      differ : (k i : ℕ) → (k ≡ 6 → ⊥) → some (record { number = k; second = i }) ≡ some r → r .number ≡ 6 → ⊥
+      differ k i n e is = let same : record { number = k; second = i } ≡ r = cc in n (ap (λ (p : Refused). p .number) same ∙ is)
+
+      go : (x y z w : Option ℕ) → firstApplying order (ground 8 x ∷ ground 1 y ∷ ground 3 z ∷ ground 6 w ∷ []) ≡ some r → r .number ≡ 6 → w ≡ some (r .second)
+      go (some i) y z w e is = absurd (differ 8 i (λ d. omega (arith, d)) e is)
+      go none (some i) z w e is = absurd (differ 1 i (λ d. omega (arith, d)) e is)
+      go none none (some i) w e is = absurd (differ 3 i (λ d. omega (arith, d)) e is)
+      go none none none (some i) e is = let same : record { number = 6; second = i } ≡ r = cc in ap (λ (p : Refused). some (p .second)) same
+      go none none none none e is = none-is-some e
+
+  -- and where they don't, 7 decides
+  pub seven-alone : refusal (ground 8 x ∷ ground 1 y ∷ ground 3 z ∷ ground 6 v ∷ []) ≡ none
+      → refusal (ground 8 x ∷ ground 1 y ∷ ground 3 z ∷ ground 7 u ∷ ground 6 v ∷ []) ≡ refusal (ground 7 u ∷ [])
+  unfolding refusal
+  seven-alone = go x y z u v
+    where
+      go : (x y z u v : Option ℕ) → firstApplying order (ground 8 x ∷ ground 1 y ∷ ground 3 z ∷ ground 6 v ∷ []) ≡ none
+          → firstApplying order (ground 8 x ∷ ground 1 y ∷ ground 3 z ∷ ground 7 u ∷ ground 6 v ∷ []) ≡ firstApplying order (ground 7 u ∷ [])
+      go (some i) y z u v e = some-is-none e
+      go none (some i) z u v e = some-is-none e
+      go none none (some i) u v e = some-is-none e
+      go none none none u (some i) e = some-is-none e
+      go none none none (some n) none e = refl
+      go none none none none none e = refl

@@ -3,6 +3,7 @@ use Prim.Native.Nat.{ℕ, _≤_, _<_}
 use mathlib.Core.Path.{_≡_, refl, sym, _∙_, ap}
 use mathlib.Core.List.{List, [], _∷_, _++_}
 use mathlib.Core.Option.{Option, some, none}
+use native.Mathlib.Omega.{arith}
 use Rattle.basis.specs.Words.{has}
 use Rattle.rules.specs.Numbers.{firstBadPartition, TableInRange, firstBadPair}
 use Rattle.rules.specs.Refusals.{Refused, refusedAs, Ground, ground, badTable, badTableOrIndex, badState, refusal, unlessBefore}
@@ -79,6 +80,23 @@ module _ (n : ℕ) (T B phase : List ℕ) where
 
     pub few-of-state : (v : Verdict) → verdictAs v ≡ refusal (badTable n T B phase ∷ badState n T B b o ∷ []) → v ≡ verdict.Good → n ≤ 16
     few-of-state v e d = few-partitions n T B phase (judged-table-good v e d)
+
+-- a refusal is one refusal, an answer is one answer, and neither is the other
+pub refused-as : {A : Type 0} {x y : Refused} → _≡_ {A = Outcome A} (refused x) (refused y) → x ≡ y
+refused-as e = cc
+
+pub given-as : {A : Type 0} {x y : A} → gives x ≡ gives y → x ≡ y
+given-as e = cc
+
+pub never-both : {A C : Type 0} {x : A} {r : Refused} → gives x ≡ refused r → C
+never-both {A} {C} {x} {r} e = absurd (differ e)
+  where
+    said : Outcome A → ℕ
+    said (gives y) = 0
+    said (refused q) = 1
+
+    differ : gives x ≡ refused r → ⊥
+    differ p = let z : _≡_ {A = ℕ} 0 1 = ap said p in omega arith
 
 -- back from what a call says
 module _ {A : Type 0} (x : A) where

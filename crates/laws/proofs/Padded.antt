@@ -5,7 +5,7 @@ use mathlib.Core.List.{List, [], _∷_, _++_, append-assoc}
 use native.Mathlib.Omega.{arith}
 use lib.ListN.{length, replicate, set, take, length-append, length-replicate}
 use lib.Seq.{set-append-seam, take-append-seam}
-use Rattle.candidates.specs.Padded.{padded}
+use Rattle.basis.specs.Words.{padded}
 
 pub padded-next : (places : ℕ) (xs : List ℕ) (y : ℕ) → length xs < places → set (padded places xs) (length xs) y ≡ padded places (xs ++ y ∷ [])
 unfolding padded

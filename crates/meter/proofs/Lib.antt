@@ -1,0 +1,2 @@
+-- a record, as the code comes to know it
+pub mod Records

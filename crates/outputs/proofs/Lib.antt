@@ -1,0 +1,2 @@
+-- the schedule printer
+pub mod Schedule

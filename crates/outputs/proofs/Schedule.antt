@@ -1,0 +1,444 @@
+-- The lines of the schedule printer's calls, joined, are the whole output: of every file, refused ones too.
+use Prim.Native.Nat.{ℕ, zero, suc, _+_, _≤_, _<_}
+use mathlib.Core.Path.{_≡_, refl, sym, _∙_, ap, subst}
+use mathlib.Core.Bool.{Bool, true, false}
+use mathlib.Core.List.{List, [], _∷_, _++_}
+use mathlib.Core.Logic.{⊎-elim}
+use mathlib.Core.Option.{Option, some, none}
+use native.Mathlib.Nat.{le-refl, le-trans, lt-irrefl}
+use native.Mathlib.Omega.{arith}
+use borrow.Author.Tests.{le-leb, eqb-true, eqb-false, ne-eqb}
+use lib.Dec.{leb, eqb}
+use lib.ListN.{length, take, drop}
+use lib.Seq.{take-append-seam}
+use Rattle.basis.specs.Words.{unless, has}
+use Rattle.rules.specs.Numbers.{Pairs, TableInRange, StateInRange, mostBytes}
+use Rattle.rules.specs.Refusals.{Refused, refusedAs, ground, unlessBefore, badTable, notAdmitted, refusal}
+use Rattle.rules.specs.Admission.{firstUnadmitted}
+use Rattle.rules.specs.MeterFile.{kindAt, nextAt, meterKinds, form, isRecord, Record, Reading, andThen, readFrom, reading, isEvent, eventsOf, beginning, tableOf, tasksOf, eventsIn, refusalOf, overLimit, malformedAt}
+use Rattle.rules.specs.Events.{Event, ticked, released, eventAt, after, inactive, ticksAfter}
+use Rattle.rules.specs.Printers.{scheduleHeader, endLine, eventLine, refusedLine, unlessInactive, unlessRefusedFile, scheduleFrom, scheduleOutput, freshOf}
+use Rattle.rules.specs.declared.Refusal.{Refusal}
+use Rattle.rules.specs.declared.Table.{Table}
+use Rattle.laws.proofs.Tests.{some-is-none, none-is-some, below-or-not}
+use Rattle.laws.proofs.MeterFile.{a-record, next-further, Whole, record-whole, Kind, partition, task, word, release, known-kind}
+use Rattle.laws.proofs.Refusals.{no-ground}
+use Rattle.laws.proofs.Records.{reading-small, reading-large, read-on, read-stops, read-ends, before-same, rounds-same, EventsFrom, events-from}
+use Rattle.laws.proofs.Keeps.{fresh-in-range, release-in-range, tick-in-range}
+use Rattle.ranges.specs.Outcome.{refused, gives}
+use Rattle.ranges.specs.Verdicts.{verdictAs}
+use Rattle.ranges.specs.declared.Verdict.the-variants as verdict
+use Rattle.ranges.proofs.Verdicts.{verdict-refused, verdict-good}
+use Rattle.ranges.proofs.Outcomes.{refused-as, given-as, never-both}
+use Rattle.scheduler.specs.States.{pairs}
+use Rattle.scheduler.specs.Promises.{Change, change, FreshIs}
+use Rattle.scheduler.specs.declared.State.{State}
+use Rattle.scheduler.specs.declared.Changed.{Changed}
+use Rattle.whole_file.specs.Promises.{Judged, judgedAs, judging, JudgeFileIs}
+use Rattle.whole_file.specs.declared.MeterFile.{MeterFile}
+use Rattle.lines.specs.Lines.{bytesOf, longestLine}
+use Rattle.lines.specs.declared.Line.the-variants as line
+use Rattle.lines.specs.declared.Written.the-variants as written
+use Rattle.lines.proofs.Longest.{no-longer}
+use Rattle.lines.proofs.Calls.{always-written}
+use Rattle.lines.specs.Promises.{onto}
+use Rattle.schedule_lines.specs.Coming.{Coming, countedOn, ticksOn, plain, eventComing, coming}
+use Rattle.schedule_lines.specs.Promises.{OneLine, Printing, madeAs, printedAs, printing, OneLineIs}
+use Rattle.schedule_lines.specs.declared.Next.{Next}
+use Rattle.schedule_lines.specs.declared.Next.the-variants as next
+use Rattle.schedule_lines.specs.declared.Made.the-variants as made
+use Rattle.schedule_lines.specs.declared.Printed.{Printed}
+use Rattle.outputs.specs.ScheduleCalls.{RefusedWith, Call, Lines, goes-on, ends, stops, SchedulePrinted}
+use Rattle.outputs.specs.ScheduleCalls as calls
+use Rattle.schedule_lines.specs.declared.Cursor.{Cursor}
+use Rattle.schedule_lines.specs.declared.Cursor.the-variants as cursor
+
+-- a kind that may come after an event is an event's
+event-there : (k : ℕ) → 0 < form k .place → form 3 .place ≤ form k .place → isEvent k ≡ true
+unfolding form
+event-there k l = go k (known-kind k l)
+  where
+    go : (j : ℕ) → Kind j → form 3 .place ≤ form j .place → isEvent j ≡ true
+    go j partition h = absurd (lt-irrefl 1 (omega (arith, h)))
+    go j task h = absurd (lt-irrefl 1 (omega (arith, h)))
+    go j word h = refl
+    go j release h = refl
+
+module _ (file : List ℕ) (t : Table) where
+  -- the events from an offset on
+  pub from : ℕ → Reading
+  from at = readFrom meterKinds file (length file) 3 at
+
+  -- a moment of a run: the state is in range, and all records from the offset on are sound
+  pub record Moment (s : Pairs) (at ticks : ℕ) : Type 0 where
+    pub small : length file ≤ mostBytes
+    pub table : TableInRange (t .count) (t .period) (t .budget) (t .phase)
+    pub state : StateInRange (t .count) (t .period) (t .budget) (s .b) (s .o)
+    pub inside : at ≤ length file
+    pub sound : from at .fault ≡ none
+    pub few : ticks ≤ at
+
+  -- what is still to be written
+  pub still : Pairs → ℕ → ℕ → List ℕ
+  still s at ticks = scheduleFrom t file s ticks (from at .records)
+
+  module _ (s : Pairs) (at ticks : ℕ) (now : Moment s at ticks) where
+    -- at the end
+    pub still-ends : at ≡ length file → still s at ticks ≡ endLine ticks
+    unfolding still from scheduleFrom
+    still-ends e = ap (λ (x : Reading). scheduleFrom t file s ticks (x .records)) (read-ends meterKinds file (length file) 3 at (rw e (le-refl (length file))))
+
+    -- at a record
+    module _ (l : at < length file) where
+      abbrev event : Event
+      event = eventAt t s file (kindAt file at) at
+
+      is-record : isRecord meterKinds 3 file at ≡ true
+      unfolding from form
+      is-record = go (isRecord meterKinds 3 file at) refl
+        where
+          go : (a : Bool) → isRecord meterKinds 3 file at ≡ a → a ≡ true
+          go true e = refl
+          go false e =
+              some-is-none
+              (sym (ap (λ (x : Reading). x .fault) (rounds-same meterKinds file (length file) (suc (length file)) 3 at (omega arith) (omega arith) ∙ read-stops meterKinds file (length file) 3 at l e))
+              ∙ now .sound)
+
+      far : at + 6 ≤ nextAt file at
+      far = next-further meterKinds 3 file at is-record .0
+
+      -- the record, and the events after it
+      from-on : from at ≡ andThen (record { kind = kindAt file at; at = at }) (from (nextAt file at))
+      unfolding from form
+      from-on =
+          rounds-same meterKinds file (length file) (suc (length file)) 3 at (omega arith) (omega arith)
+          ∙ read-on meterKinds file (length file) 3 at l is-record
+          ∙ ap (andThen (record { kind = kindAt file at; at = at })) (before-same meterKinds file (length file) (kindAt file at) 3 (nextAt file at) same-place)
+        where
+          same-place : form (kindAt file at) .place ≡ form 3 .place
+          same-place = eqb-true (form (kindAt file at) .place) 3 (event-there (kindAt file at) (whole .known) (whole .ordered))
+            where
+              whole : Whole meterKinds 3 file at
+              whole = record-whole meterKinds 3 file at is-record
+
+      pub still-goes-on : still s at ticks ≡ unlessInactive (inactive t s event) (eventLine ticks event ++ still (after t s event) (nextAt file at) (ticksAfter ticks event))
+      unfolding still scheduleFrom
+      still-goes-on = ap (λ (x : Reading). scheduleFrom t file s ticks (x .records)) from-on
+
+      pub next-moment : Moment (after t s event) (nextAt file at) (ticksAfter ticks event)
+      next-moment =
+          record {
+            small = now .small;
+            table = now .table;
+            state = in-range event;
+            inside = next-further meterKinds 3 file at is-record .1;
+            sound = sym (ap (λ (x : Reading). x .fault) from-on) ∙ now .sound;
+            few = counted event;
+          }
+        where
+          in-range : (e : Event) → StateInRange (t .count) (t .period) (t .budget) (after t s e .b) (after t s e .o)
+          in-range (ticked pick) = tick-in-range (t .count) (t .period) (t .budget) (t .phase) (now .table) (s .b) (s .o) pick (now .state)
+          in-range (released index) = release-in-range (t .count) (t .period) (t .budget) (t .phase) (now .table) (s .b) (s .o) (now .state) index
+
+          counted : (e : Event) → ticksAfter ticks e ≤ nextAt file at
+          counted (ticked pick) = let few : ticks ≤ at = now .few in omega (arith, few, far)
+          counted (released index) = let few : ticks ≤ at = now .few in omega (arith, few, far)
+
+      pub not-malformed-here : malformedAt meterKinds 3 file at ≡ none
+      not-malformed-here = a-record meterKinds 3 file at (now .small) is-record
+
+      pub ticks-on : ticksOn ticks event ≡ ticksAfter ticks event
+      unfolding countedOn
+      ticks-on = go event
+        where
+          go : (e : Event) → ticksOn ticks e ≡ ticksAfter ticks e
+          go (ticked pick) = rw (ne-eqb ticks 18446744073709551615 (λ d. large d))
+            where
+              large : ticks ≡ 18446744073709551615 → ⊥
+              large d = let few : ticks ≤ at = now .few in let small : length file ≤ mostBytes = now .small in omega (arith, few, small, d, l)
+          go (released index) = refl
+
+-- ---- where the file, the table, the state and the buffer are sound, only 6 can refuse
+six-alone : (x y z u v : Option ℕ) → x ≡ none → y ≡ none → z ≡ none → u ≡ none
+    → refusal (ground 8 x ∷ ground 1 y ∷ ground 3 z ∷ ground 7 u ∷ ground 6 v ∷ []) ≡ unlessBefore 6 v none
+unfolding refusal
+six-alone x y z u v a b c d = rw (a, b, c, d)
+
+-- an event that is allowed has its line, and one that isn't its refusal
+unless-none : {v : Option ℕ} (output : List ℕ) → v ≡ none → unlessInactive v output ≡ output
+unfolding unlessInactive
+unless-none output e = ap (λ (x : Option ℕ). unlessInactive x output) e
+
+unless-some : {v : Option ℕ} (output : List ℕ) (i : ℕ) → v ≡ some i → unlessInactive v output ≡ refusedLine (record { number = 6; second = i })
+unfolding unlessInactive
+unless-some output i e = ap (λ (x : Option ℕ). unlessInactive x output) e
+
+-- neither 1 nor 2
+two-none : (x y : Option ℕ) → x ≡ none → y ≡ none → refusal (ground 1 x ∷ ground 2 y ∷ []) ≡ none
+unfolding refusal
+two-none x y a b = rw (a, b)
+
+-- any line fits into 64 bytes
+event-short : (ticks : ℕ) (e : Event) → length (eventLine ticks e) ≤ longestLine
+unfolding bytesOf
+event-short ticks (ticked pick) = no-longer (line.Tick ticks pick)
+event-short ticks (released index) = no-longer (line.Release ticks index)
+
+-- a line at the start of a buffer
+taken : (n : ℕ) (bytes buffer last : List ℕ) → n ≡ length bytes → last ≡ onto bytes buffer → take n last ≡ bytes
+taken n bytes buffer last e f = (λ i. take (e i) (f i)) ∙ take-append-seam bytes (drop (length bytes) buffer)
+
+-- a line that goes on isn't the last
+line-is-nothing : {A : Type 0} {c : Cursor} → next.Line c ≡ next.Nothing → A
+line-is-nothing {A} {c} e = absurd (differ e)
+  where
+    named : Next → ℕ
+    named (next.Line d) = 0
+    named next.Nothing = 1
+
+    differ : next.Line c ≡ next.Nothing → ⊥
+    differ p = let z : _≡_ {A = ℕ} 0 1 = ap named p in omega arith
+
+-- the line of a refusal
+refused-written : (q : Refusal) (output : List ℕ) → RefusedWith q output → output ≡ refusedLine (refusedAs q)
+unfolding bytesOf
+refused-written q output w =
+    let said = always-written (line.Refused q) (w .buffer) (written.Bytes (w .count)) (w .last) (w .room) (w .call) in
+    let count : w .count ≡ length (refusedLine (refusedAs q)) = same (said .0) in
+    w .bytes ∙ taken (w .count) (refusedLine (refusedAs q)) (w .buffer) (w .last) count (said .1)
+  where
+    same : {n m : ℕ} → written.Bytes n ≡ written.Bytes m → n ≡ m
+    same e = cc
+
+module _ (file : List ℕ) (t : Table) where
+  -- what is still to be written at a cursor, and what holds there
+  toWrite : Pairs → Cursor → List ℕ
+  toWrite s (cursor.Header events) = scheduleHeader ++ still file t s events 0
+  toWrite s (cursor.Record at ticks) = still file t s at ticks
+
+  At : Pairs → Cursor → Type 0
+  At s (cursor.Header events) = Moment file t s events 0
+  At s (cursor.Record at ticks) = Moment file t s at ticks
+
+  module _ (s : State) (c : Cursor) (call : Call file t s c) where
+    -- what a call does: a line and more, the last line, or refusal 6
+    data Went : Type 0 where
+      on : (bytes : List ℕ) (then : Cursor) → madeAs (call .answer .made) ≡ gives (record { length = length bytes; next = next.Line then }) → call .last ≡ onto bytes (call .buffer)
+          → toWrite (pairs s) c ≡ bytes ++ toWrite (pairs (call .answer .state)) then → At (pairs (call .answer .state)) then → Went
+      over : (bytes : List ℕ) → madeAs (call .answer .made) ≡ gives (record { length = length bytes; next = next.Nothing }) → call .last ≡ onto bytes (call .buffer)
+          → toWrite (pairs s) c ≡ bytes → Went
+      out : (i : ℕ) → madeAs (call .answer .made) ≡ refused (record { number = 6; second = i }) → toWrite (pairs s) c ≡ refusedLine (record { number = 6; second = i }) → Went
+
+    -- one line, where what comes is known and nothing but 6 is against it
+    module _ (d : Coming) (same : coming file t (pairs s) c ≡ d) (fault : d .fault ≡ none) (short : length (d .line) ≤ longestLine)
+        (table : TableInRange (t .count) (t .period) (t .budget) (t .phase)) (state : StateInRange (t .count) (t .period) (t .budget) (s .b) (s .o)) where
+      said : printedAs (call .answer) (call .last) ≡ printing (unlessBefore 6 (d .inactive) none) (pairs s) d (call .buffer)
+      said =
+          subst (λ (x : Coming). OneLineIs t s x (call .buffer) (call .answer) (call .last)) same (call .is)
+          ∙ ap (λ (o : Option Refused). printing o (pairs s) d (call .buffer))
+          (six-alone _ _ _ _ (d .inactive) fault table (state .pairs) (ap (λ (a : Bool). unless a (length (d .line))) (le-leb (length (d .line)) (length (call .buffer)) (le-trans short (call .room)))))
+
+      one : d .inactive ≡ none → printedAs (call .answer) (call .last) ≡ record { after = d .after; says = gives (record { length = length (d .line); next = d .next }); buffer = onto (d .line) (call .buffer) }
+      unfolding printing
+      one e = said ∙ ap (λ (x : Option ℕ). printing (unlessBefore 6 x none) (pairs s) d (call .buffer)) e
+
+      none-made : (i : ℕ) → d .inactive ≡ some i → printedAs (call .answer) (call .last) ≡ record { after = pairs s; says = refused (record { number = 6; second = i }); buffer = call .buffer }
+      unfolding printing
+      none-made i e = said ∙ ap (λ (x : Option ℕ). printing (unlessBefore 6 x none) (pairs s) d (call .buffer)) e
+
+  -- the header
+  went-header : (s : State) (events : ℕ) (call : Call file t s (cursor.Header events)) → Moment file t (pairs s) events 0 → Went s (cursor.Header events) call
+  unfolding coming toWrite At
+  went-header s events call now =
+      on scheduleHeader (cursor.Record events 0) (ap (λ (x : Printing). x .says) made) (ap (λ (x : Printing). x .buffer) made)
+      (ap (λ (x : Pairs). scheduleHeader ++ still file t x events 0) (sym same-state))
+      (subst (λ (x : Pairs). Moment file t x events 0) (sym same-state) now)
+    where
+      limit : overLimit file ≡ none
+      limit = ap (λ (a : Bool). unless a mostBytes) (le-leb (length file) mostBytes (now .small))
+
+      made : printedAs (call .answer) (call .last) ≡ record { after = pairs s; says = gives (record { length = length scheduleHeader; next = next.Line (cursor.Record events 0) }); buffer = onto scheduleHeader (call .buffer) }
+      made = one s (cursor.Header events) call (plain file (pairs s) scheduleHeader (next.Line (cursor.Record events 0))) refl limit (omega arith) (now .table) (now .state) refl
+
+      same-state : pairs (call .answer .state) ≡ pairs s
+      same-state = ap (λ (x : Printing). x .after) made
+
+  -- a record, or the end
+  went-record : (s : State) (at ticks : ℕ) (call : Call file t s (cursor.Record at ticks)) → Moment file t (pairs s) at ticks → Went s (cursor.Record at ticks) call
+  unfolding coming toWrite At bytesOf
+  went-record s at ticks call now = go (eqb at (length file)) refl
+    where
+      limit : overLimit file ≡ none
+      limit = ap (λ (a : Bool). unless a mostBytes) (le-leb (length file) mostBytes (now .small))
+
+      go : (a : Bool) → eqb at (length file) ≡ a → Went s (cursor.Record at ticks) call
+      go true e =
+          let made = one s (cursor.Record at ticks) call (plain file (pairs s) (endLine ticks) next.Nothing) (rw e) limit (no-longer (line.End ticks)) (now .table) (now .state) refl in
+          over (endLine ticks) (ap (λ (x : Printing). x .says) made) (ap (λ (x : Printing). x .buffer) made) (still-ends file t (pairs s) at ticks now (eqb-true at (length file) e))
+      go false e = played (inactive t (pairs s) (eventAt t (pairs s) file (kindAt file at) at)) refl
+        where
+          inside : at < length file
+          inside = let least : at ≤ length file = now .inside in let other : at ≡ length file → ⊥ = eqb-false at (length file) e in omega (arith, least, other)
+
+          here : coming file t (pairs s) (cursor.Record at ticks) ≡ eventComing file t (pairs s) at ticks
+          here = rw e
+
+          sound : malformedAt meterKinds 3 file at ≡ none
+          sound = not-malformed-here file t (pairs s) at ticks now inside
+
+          goes : still file t (pairs s) at ticks ≡ unlessInactive (inactive t (pairs s) (eventAt t (pairs s) file (kindAt file at) at)) (eventLine ticks (eventAt t (pairs s) file (kindAt file at) at) ++ still file t (after t (pairs s) (eventAt t (pairs s) file (kindAt file at) at)) (nextAt file at) (ticksAfter ticks (eventAt t (pairs s) file (kindAt file at) at)))
+          goes = still-goes-on file t (pairs s) at ticks now inside
+
+          played : (v : Option ℕ) → inactive t (pairs s) (eventAt t (pairs s) file (kindAt file at) at) ≡ v → Went s (cursor.Record at ticks) call
+          played none f =
+              on (eventLine ticks (eventAt t (pairs s) file (kindAt file at) at)) (cursor.Record (nextAt file at) (ticksOn ticks (eventAt t (pairs s) file (kindAt file at) at)))
+              (ap (λ (x : Printing). x .says) made) (ap (λ (x : Printing). x .buffer) made)
+              (goes ∙ unless-none _ f ∙ (λ i. eventLine ticks (eventAt t (pairs s) file (kindAt file at) at) ++ still file t (same-state i) (nextAt file at) (same-ticks i)))
+              (subst (λ (x : Pairs). Moment file t x (nextAt file at) (ticksOn ticks (eventAt t (pairs s) file (kindAt file at) at))) same-state
+              (subst (λ (k : ℕ). Moment file t (after t (pairs s) (eventAt t (pairs s) file (kindAt file at) at)) (nextAt file at) k) same-ticks (next-moment file t (pairs s) at ticks now inside)))
+            where
+              made : printedAs (call .answer) (call .last) ≡ record { after = after t (pairs s) (eventAt t (pairs s) file (kindAt file at) at); says = gives (record { length = length (eventLine ticks (eventAt t (pairs s) file (kindAt file at) at)); next = next.Line (cursor.Record (nextAt file at) (ticksOn ticks (eventAt t (pairs s) file (kindAt file at) at))) }); buffer = onto (eventLine ticks (eventAt t (pairs s) file (kindAt file at) at)) (call .buffer) }
+              made = one s (cursor.Record at ticks) call (eventComing file t (pairs s) at ticks) here sound (event-short ticks (eventAt t (pairs s) file (kindAt file at) at)) (now .table) (now .state) f
+
+              same-state : after t (pairs s) (eventAt t (pairs s) file (kindAt file at) at) ≡ pairs (call .answer .state)
+              same-state = sym (ap (λ (x : Printing). x .after) made)
+
+              same-ticks : ticksAfter ticks (eventAt t (pairs s) file (kindAt file at) at) ≡ ticksOn ticks (eventAt t (pairs s) file (kindAt file at) at)
+              same-ticks = sym (ticks-on file t (pairs s) at ticks now inside)
+          played (some i) f =
+              let made = none-made s (cursor.Record at ticks) call (eventComing file t (pairs s) at ticks) here sound (event-short ticks (eventAt t (pairs s) file (kindAt file at) at)) (now .table) (now .state) i f in
+              out i (ap (λ (x : Printing). x .says) made) (goes ∙ unless-some _ i f)
+
+  went : (s : State) (c : Cursor) (call : Call file t s c) → At (pairs s) c → Went s c call
+  unfolding At
+  went s (cursor.Header events) call now = went-header s events call now
+  went s (cursor.Record at ticks) call now = went-record s at ticks call now
+
+  -- the calls from a cursor on write what is still to be written there
+  joined : {s : State} {c : Cursor} {output : List ℕ} → Lines file t s c output → At (pairs s) c → output ≡ toWrite (pairs s) c
+  joined (goes-on {s} {c} {rest} call n then made-is later) now = finish (went s c call now) (λ (a : At (pairs (call .answer .state)) then). joined later a)
+    where
+      finish : Went s c call → (At (pairs (call .answer .state)) then → rest ≡ toWrite (pairs (call .answer .state)) then) → take n (call .last) ++ rest ≡ toWrite (pairs s) c
+      finish (on bytes further e f g h) ih =
+          (λ i. taken n bytes (call .buffer) (call .last) (ap (λ (x : OneLine). x .length) same) f i ++ (ih (subst (At (pairs (call .answer .state))) (sym then-is) h) ∙ ap (toWrite (pairs (call .answer .state))) then-is) i)
+          ∙ sym g
+        where
+          same : _≡_ {A = OneLine} (record { length = n; next = next.Line then }) (record { length = length bytes; next = next.Line further })
+          same = given-as (sym (ap madeAs made-is) ∙ e)
+
+          then-is : then ≡ further
+          then-is = let lines : next.Line then ≡ next.Line further = ap (λ (x : OneLine). x .next) same in cc
+      finish (over bytes e f g) ih = line-is-nothing (ap (λ (x : OneLine). x .next) (given-as (sym (ap madeAs made-is) ∙ e)))
+      finish (out i e g) ih = never-both (sym (ap madeAs made-is) ∙ e)
+  joined (ends {s} {c} call n made-is) now = finish (went s c call now)
+    where
+      finish : Went s c call → take n (call .last) ≡ toWrite (pairs s) c
+      finish (on bytes further e f g h) = line-is-nothing (sym (ap (λ (x : OneLine). x .next) (given-as (sym (ap madeAs made-is) ∙ e))))
+      finish (over bytes e f g) = taken n bytes (call .buffer) (call .last) (ap (λ (x : OneLine). x .length) (given-as (sym (ap madeAs made-is) ∙ e))) f ∙ sym g
+      finish (out i e g) = never-both (sym (ap madeAs made-is) ∙ e)
+  joined (stops {s} {c} {output} call q made-is written) now = finish (went s c call now)
+    where
+      finish : Went s c call → output ≡ toWrite (pairs s) c
+      finish (on bytes further e f g h) = never-both (sym e ∙ ap madeAs made-is)
+      finish (over bytes e f g) = never-both (sym e ∙ ap madeAs made-is)
+      finish (out i e g) = refused-written q output written ∙ ap refusedLine (refused-as (sym (ap madeAs made-is) ∙ e)) ∙ sym g
+
+-- ---- the theorem
+module _ (file : List ℕ) (m : MeterFile) (judged : JudgeFileIs file m) where
+  -- a refused file
+  why : (q : Refusal) → m .verdict ≡ verdict.Refused q → refusalOf file ≡ some (refusedAs q)
+  unfolding judging
+  why q e = go (refusalOf file) (ap (λ (x : Judged). x .refused) judged)
+    where
+      go : (o : Option Refused) → verdictAs (m .verdict) ≡ judging o file .refused → o ≡ some (refusedAs q)
+      go none h = none-is-some (sym h ∙ verdict-refused (m .verdict) q e)
+      go (some r) h = sym h ∙ verdict-refused (m .verdict) q e
+
+  -- and one that isn't
+  module _ (good : m .verdict ≡ verdict.Good) where
+    fine : refusalOf file ≡ none
+    unfolding judging
+    fine = go (refusalOf file) (ap (λ (x : Judged). x .refused) judged)
+      where
+        go : (o : Option Refused) → verdictAs (m .verdict) ≡ judging o file .refused → o ≡ none
+        go none h = refl
+        go (some r) h = none-is-some (sym (verdict-good (m .verdict) good) ∙ h)
+
+    holds : judgedAs m ≡ record { table = tableOf file; tasks = tasksOf file; events = beginning (eventsIn file) (length file); refused = none }
+    unfolding judging
+    holds = judged ∙ ap (λ (o : Option Refused). judging o file) fine
+
+    whole : reading meterKinds file .fault ≡ none
+    unfolding refusalOf has
+    whole = no-ground _ fine 8 refl
+
+    in-range : TableInRange (tableOf file .count) (tableOf file .period) (tableOf file .budget) (tableOf file .phase)
+    unfolding refusalOf has
+    in-range = no-ground _ fine 1 refl
+
+    admitted : firstUnadmitted (tableOf file .count) (tableOf file .period) (tableOf file .budget) ≡ none
+    unfolding refusalOf has
+    admitted = no-ground _ fine 2 refl
+
+    small : length file ≤ mostBytes
+    small = ⊎-elim (λ l. some-is-none (sym (ap (λ (x : Reading). x .fault) (reading-large meterKinds file l)) ∙ whole)) (λ l. l) (below-or-not mostBytes (length file))
+
+    events : EventsFrom meterKinds file (eventsIn file)
+    unfolding eventsIn
+    events =
+        subst (λ (x : Reading). EventsFrom meterKinds file (eventsOf (x .records))) (sym read-all)
+        (events-from meterKinds file (length file) 0 0 (omega arith) (ap (λ (x : Reading). x .fault) (sym read-all) ∙ whole))
+      where
+        read-all : reading meterKinds file ≡ readFrom meterKinds file (length file) 0 0
+        read-all = reading-small meterKinds file small
+
+    begins : (old : State) (start : Changed) → FreshIs (m .table) old start → pairs (start .state) ≡ freshOf (tableOf file)
+    unfolding change
+    begins old start fresh =
+        ap (λ (x : Change). x .after)
+        (fresh
+        ∙ ap (λ (t : Table). change (refusal (badTable (t .count) (t .period) (t .budget) (t .phase) ∷ notAdmitted (t .count) (t .period) (t .budget) ∷ [])) (pairs old) (freshOf t)) (ap (λ (x : Judged). x .table) holds)
+        ∙ ap (λ (o : Option Refused). change o (pairs old) (freshOf (tableOf file))) none-against)
+      where
+        none-against : refusal (badTable (tableOf file .count) (tableOf file .period) (tableOf file .budget) (tableOf file .phase) ∷ notAdmitted (tableOf file .count) (tableOf file .period) (tableOf file .budget) ∷ []) ≡ none
+        none-against = two-none _ _ in-range admitted
+
+    -- the moment of the header
+    pub first-moment : Moment file (tableOf file) (freshOf (tableOf file)) (beginning (eventsIn file) (length file)) 0
+    unfolding from
+    first-moment =
+        record {
+          small = small;
+          table = in-range;
+          state = fresh-in-range (tableOf file .count) (tableOf file .period) (tableOf file .budget) (tableOf file .phase) in-range;
+          inside = events .inside;
+          sound = ap (λ (x : Reading). x .fault) (events .read);
+          few = omega arith;
+        }
+
+    -- all that the calls write
+    pub all-written : (old : State) (start : Changed) → FreshIs (m .table) old start → {output : List ℕ} → Lines file (m .table) (start .state) (cursor.Header (m .events)) output
+        → output ≡ scheduleHeader ++ scheduleFrom (tableOf file) file (freshOf (tableOf file)) 0 (eventsIn file)
+    unfolding toWrite At still from
+    all-written old start fresh lines =
+        joined file (m .table) lines (subst (λ (x : Table). Moment file x (pairs (start .state)) (m .events) 0) (sym table-is) here)
+        ∙ (λ i. scheduleHeader ++ scheduleFrom (table-is i) file (begins old start fresh i) 0 (readFrom meterKinds file (length file) 3 (events-are i) .records))
+        ∙ ap (λ (x : Reading). scheduleHeader ++ scheduleFrom (tableOf file) file (freshOf (tableOf file)) 0 (x .records)) (events .read)
+      where
+        table-is : m .table ≡ tableOf file
+        table-is = ap (λ (x : Judged). x .table) holds
+
+        events-are : m .events ≡ beginning (eventsIn file) (length file)
+        events-are = ap (λ (x : Judged). x .events) holds
+
+        here : Moment file (tableOf file) (pairs (start .state)) (m .events) 0
+        here = subst (λ (k : ℕ). Moment file (tableOf file) (pairs (start .state)) k 0) (sym events-are) (subst (λ (p : Pairs). Moment file (tableOf file) p (beginning (eventsIn file) (length file)) 0) (sym (begins old start fresh)) first-moment)
+
+pub schedule-printed : (file : List ℕ) {output : List ℕ} → SchedulePrinted file output → output ≡ scheduleOutput file
+unfolding scheduleOutput unlessRefusedFile
+schedule-printed file (calls.refused {output} m judged q e written) =
+    refused-written q output written
+    ∙ sym (ap (λ (o : Option Refused). unlessRefusedFile o (scheduleHeader ++ scheduleFrom (tableOf file) file (freshOf (tableOf file)) 0 (eventsIn file))) (why file m judged q e))
+schedule-printed file (calls.printed {output} m judged good old start fresh lines) =
+    all-written file m judged good old start fresh lines
+    ∙ sym (ap (λ (o : Option Refused). unlessRefusedFile o (scheduleHeader ++ scheduleFrom (tableOf file) file (freshOf (tableOf file)) 0 (eventsIn file))) (fine file m judged good))

@@ -1,0 +1,2 @@
+-- the calls of the schedule printer, one after the other
+pub mod ScheduleCalls

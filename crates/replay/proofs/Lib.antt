@@ -1,0 +1,2 @@
+-- from a step or a release to an event
+pub mod Events
