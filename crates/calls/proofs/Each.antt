@@ -35,7 +35,7 @@ use Rattle.scheduler.specs.declared.State.{State}
 use Rattle.scheduler.specs.declared.Changed.{Changed}
 use Rattle.runs.specs.Promises.{Step, steppedAs, stepped as step, Runs, runs, ranAs}
 use Rattle.runs.specs.declared.Stepped.{Stepped}
-use Rattle.answers.proofs.OneAnswer.{given-as, never-both}
+use Rattle.ranges.proofs.Outcomes.{given-as, never-both}
 use Rattle.calls.specs.Calls.{Call, decided, stepped, ran, ticked, released, Promised, leaves, ifMade, picked, events}
 
 -- ---- over the rules: one event, and a run

@@ -224,6 +224,10 @@ record-first x y z u = record { place = 1; early = refl; late = refl }
 pub line-first : (x y z u v : Option ℕ) → InTurn (ground 8 x ∷ ground 1 y ∷ ground 3 z ∷ []) (ground 7 u ∷ ground 6 v ∷ [])
 line-first x y z u v = record { place = 5; early = refl; late = refl }
 
+-- of a row's, 1 and 9 before 7
+pub row-first : (x y z : Option ℕ) → InTurn (ground 1 x ∷ ground 9 y ∷ []) (ground 7 z ∷ [])
+row-first x y z = record { place = 5; early = refl; late = refl }
+
 pub size-first : (x y z : Option ℕ) → InTurn (ground 8 x ∷ []) (ground 1 y ∷ ground 3 z ∷ [])
 size-first x y z = record { place = 1; early = refl; late = refl }
 

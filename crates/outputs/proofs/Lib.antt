@@ -1,2 +1,8 @@
+-- a line in the buffer of its call, and the line of a refusal
+pub mod LineInBuffer
+-- what a judged file says of the file
+pub mod JudgedFile
 -- the schedule printer
 pub mod Schedule
+-- the response printer
+pub mod Response

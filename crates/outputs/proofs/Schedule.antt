@@ -1,57 +1,50 @@
 -- The lines of the schedule printer's calls, joined, are the whole output: of every file, refused ones too.
-use Prim.Native.Nat.{ℕ, zero, suc, _+_, _≤_, _<_}
+use Prim.Native.Nat.{ℕ, zero, suc, _+_, _-_, _*_, _≤_, _<_}
 use mathlib.Core.Path.{_≡_, refl, sym, _∙_, ap, subst}
-use mathlib.Core.Bool.{Bool, true, false}
+use mathlib.Core.Bool.{Bool, true, false, cond}
 use mathlib.Core.List.{List, [], _∷_, _++_}
 use mathlib.Core.Logic.{⊎-elim}
 use mathlib.Core.Option.{Option, some, none}
-use native.Mathlib.Nat.{le-refl, le-trans, lt-irrefl}
+use native.Mathlib.Nat.{le-refl, lt-irrefl}
 use native.Mathlib.Omega.{arith}
 use borrow.Author.Tests.{le-leb, eqb-true, eqb-false, ne-eqb}
 use lib.Dec.{leb, eqb}
-use lib.ListN.{length, take, drop}
-use lib.Seq.{take-append-seam}
-use Rattle.basis.specs.Words.{unless, has}
+use lib.ListN.{length, take, length-append}
+use Rattle.basis.specs.Words.{unless}
 use Rattle.rules.specs.Numbers.{Pairs, TableInRange, StateInRange, mostBytes}
-use Rattle.rules.specs.Refusals.{Refused, refusedAs, ground, unlessBefore, badTable, notAdmitted, refusal}
-use Rattle.rules.specs.Admission.{firstUnadmitted}
-use Rattle.rules.specs.MeterFile.{kindAt, nextAt, meterKinds, form, isRecord, Record, Reading, andThen, readFrom, reading, isEvent, eventsOf, beginning, tableOf, tasksOf, eventsIn, refusalOf, overLimit, malformedAt}
+use Rattle.rules.specs.Refusals.{Refused, ground, unlessBefore, badTable, notAdmitted, refusal}
+use Rattle.rules.specs.MeterFile.{kindAt, nextAt, meterKinds, form, isRecord, Record, Reading, andThen, readFrom, reading, isEvent, eventsOf, beginning, tableOf, eventsIn, overLimit, malformedAt}
 use Rattle.rules.specs.Events.{Event, ticked, released, eventAt, after, inactive, ticksAfter}
-use Rattle.rules.specs.Printers.{scheduleHeader, endLine, eventLine, refusedLine, unlessInactive, unlessRefusedFile, scheduleFrom, scheduleOutput, freshOf}
-use Rattle.rules.specs.declared.Refusal.{Refusal}
+use Rattle.rules.specs.Printers.{scheduleHeader, endLine, eventLine, refusedLine, unlessInactive, scheduleFrom, scheduleOutput, freshOf}
+use Rattle.rules.specs.declared.Refusal.the-variants.{NotActive}
 use Rattle.rules.specs.declared.Table.{Table}
-use Rattle.laws.proofs.Tests.{some-is-none, none-is-some, below-or-not}
+use Rattle.laws.proofs.Tests.{some-is-none, below-or-not}
 use Rattle.laws.proofs.MeterFile.{a-record, next-further, Whole, record-whole, Kind, partition, task, word, release, known-kind}
-use Rattle.laws.proofs.Refusals.{no-ground}
 use Rattle.laws.proofs.Records.{reading-small, reading-large, read-on, read-stops, read-ends, before-same, rounds-same, EventsFrom, events-from}
 use Rattle.laws.proofs.Keeps.{fresh-in-range, release-in-range, tick-in-range}
 use Rattle.ranges.specs.Outcome.{refused, gives}
-use Rattle.ranges.specs.Verdicts.{verdictAs}
 use Rattle.ranges.specs.declared.Verdict.the-variants as verdict
-use Rattle.ranges.proofs.Verdicts.{verdict-refused, verdict-good}
 use Rattle.ranges.proofs.Outcomes.{refused-as, given-as, never-both}
 use Rattle.scheduler.specs.States.{pairs}
 use Rattle.scheduler.specs.Promises.{Change, change, FreshIs}
 use Rattle.scheduler.specs.declared.State.{State}
 use Rattle.scheduler.specs.declared.Changed.{Changed}
-use Rattle.whole_file.specs.Promises.{Judged, judgedAs, judging, JudgeFileIs}
+use Rattle.whole_file.specs.Promises.{Judged, JudgeFileIs}
 use Rattle.whole_file.specs.declared.MeterFile.{MeterFile}
 use Rattle.lines.specs.Lines.{bytesOf, longestLine}
-use Rattle.lines.specs.declared.Line.the-variants as line
-use Rattle.lines.specs.declared.Written.the-variants as written
-use Rattle.lines.proofs.Longest.{no-longer}
-use Rattle.lines.proofs.Calls.{always-written}
 use Rattle.lines.specs.Promises.{onto}
+use Rattle.lines.specs.declared.Line.the-variants as line
+use Rattle.lines.proofs.Longest.{no-longer}
 use Rattle.schedule_lines.specs.Coming.{Coming, countedOn, ticksOn, plain, eventComing, coming}
 use Rattle.schedule_lines.specs.Promises.{OneLine, Printing, madeAs, printedAs, printing, OneLineIs}
-use Rattle.schedule_lines.specs.declared.Next.{Next}
-use Rattle.schedule_lines.specs.declared.Next.the-variants as next
-use Rattle.schedule_lines.specs.declared.Made.the-variants as made
-use Rattle.schedule_lines.specs.declared.Printed.{Printed}
-use Rattle.outputs.specs.ScheduleCalls.{RefusedWith, Call, Lines, goes-on, ends, stops, SchedulePrinted}
-use Rattle.outputs.specs.ScheduleCalls as calls
 use Rattle.schedule_lines.specs.declared.Cursor.{Cursor}
 use Rattle.schedule_lines.specs.declared.Cursor.the-variants as cursor
+use Rattle.schedule_lines.specs.declared.Next.{Next}
+use Rattle.schedule_lines.specs.declared.Next.the-variants as next
+use Rattle.outputs.specs.ScheduleCalls.{Call, Lines, goes-on, ends, stops, SchedulePrinted}
+use Rattle.outputs.specs.ScheduleCalls as calls
+use Rattle.outputs.proofs.LineInBuffer.{has-room, taken, refused-written}
+use Rattle.outputs.proofs.JudgedFile.{output-refused, output-good, holds, table-is, events-are, whole, in-range, admitted}
 
 -- a kind that may come after an event is an event's
 event-there : (k : ℕ) → 0 < form k .place → form 3 .place ≤ form k .place → isEvent k ≡ true
@@ -104,7 +97,7 @@ module _ (file : List ℕ) (t : Table) where
               (sym (ap (λ (x : Reading). x .fault) (rounds-same meterKinds file (length file) (suc (length file)) 3 at (omega arith) (omega arith) ∙ read-stops meterKinds file (length file) 3 at l e))
               ∙ now .sound)
 
-      far : at + 6 ≤ nextAt file at
+      pub far : at + 6 ≤ nextAt file at
       far = next-further meterKinds 3 file at is-record .0
 
       -- the record, and the events after it
@@ -184,12 +177,8 @@ unfolding bytesOf
 event-short ticks (ticked pick) = no-longer (line.Tick ticks pick)
 event-short ticks (released index) = no-longer (line.Release ticks index)
 
--- a line at the start of a buffer
-taken : (n : ℕ) (bytes buffer last : List ℕ) → n ≡ length bytes → last ≡ onto bytes buffer → take n last ≡ bytes
-taken n bytes buffer last e f = (λ i. take (e i) (f i)) ∙ take-append-seam bytes (drop (length bytes) buffer)
-
 -- a line that goes on isn't the last
-line-is-nothing : {A : Type 0} {c : Cursor} → next.Line c ≡ next.Nothing → A
+pub line-is-nothing : {A : Type 0} {c : Cursor} → next.Line c ≡ next.Nothing → A
 line-is-nothing {A} {c} e = absurd (differ e)
   where
     named : Next → ℕ
@@ -199,33 +188,27 @@ line-is-nothing {A} {c} e = absurd (differ e)
     differ : next.Line c ≡ next.Nothing → ⊥
     differ p = let z : _≡_ {A = ℕ} 0 1 = ap named p in omega arith
 
--- the line of a refusal
-refused-written : (q : Refusal) (output : List ℕ) → RefusedWith q output → output ≡ refusedLine (refusedAs q)
-unfolding bytesOf
-refused-written q output w =
-    let said = always-written (line.Refused q) (w .buffer) (written.Bytes (w .count)) (w .last) (w .room) (w .call) in
-    let count : w .count ≡ length (refusedLine (refusedAs q)) = same (said .0) in
-    w .bytes ∙ taken (w .count) (refusedLine (refusedAs q)) (w .buffer) (w .last) count (said .1)
-  where
-    same : {n m : ℕ} → written.Bytes n ≡ written.Bytes m → n ≡ m
-    same e = cc
-
 module _ (file : List ℕ) (t : Table) where
   -- what is still to be written at a cursor, and what holds there
-  toWrite : Pairs → Cursor → List ℕ
+  unfoldable pub toWrite : Pairs → Cursor → List ℕ
   toWrite s (cursor.Header events) = scheduleHeader ++ still file t s events 0
   toWrite s (cursor.Record at ticks) = still file t s at ticks
 
-  At : Pairs → Cursor → Type 0
+  unfoldable pub At : Pairs → Cursor → Type 0
   At s (cursor.Header events) = Moment file t s events 0
   At s (cursor.Record at ticks) = Moment file t s at ticks
 
+  -- how far a cursor is from the end
+  pub left : Cursor → ℕ
+  left (cursor.Header events) = suc (suc (length file))
+  left (cursor.Record at ticks) = suc (length file) - at
+
   module _ (s : State) (c : Cursor) (call : Call file t s c) where
     -- what a call does: a line and more, the last line, or refusal 6
-    data Went : Type 0 where
-      on : (bytes : List ℕ) (then : Cursor) → madeAs (call .answer .made) ≡ gives (record { length = length bytes; next = next.Line then }) → call .last ≡ onto bytes (call .buffer)
+    pub data Went : Type 0 where
+      on : (bytes : List ℕ) (then : Cursor) → length bytes ≤ longestLine → left then < left c → madeAs (call .answer .made) ≡ gives (record { length = length bytes; next = next.Line then }) → call .last ≡ onto bytes (call .buffer)
           → toWrite (pairs s) c ≡ bytes ++ toWrite (pairs (call .answer .state)) then → At (pairs (call .answer .state)) then → Went
-      over : (bytes : List ℕ) → madeAs (call .answer .made) ≡ gives (record { length = length bytes; next = next.Nothing }) → call .last ≡ onto bytes (call .buffer)
+      over : (bytes : List ℕ) → length bytes ≤ longestLine → madeAs (call .answer .made) ≡ gives (record { length = length bytes; next = next.Nothing }) → call .last ≡ onto bytes (call .buffer)
           → toWrite (pairs s) c ≡ bytes → Went
       out : (i : ℕ) → madeAs (call .answer .made) ≡ refused (record { number = 6; second = i }) → toWrite (pairs s) c ≡ refusedLine (record { number = 6; second = i }) → Went
 
@@ -236,7 +219,7 @@ module _ (file : List ℕ) (t : Table) where
       said =
           subst (λ (x : Coming). OneLineIs t s x (call .buffer) (call .answer) (call .last)) same (call .is)
           ∙ ap (λ (o : Option Refused). printing o (pairs s) d (call .buffer))
-          (six-alone _ _ _ _ (d .inactive) fault table (state .pairs) (ap (λ (a : Bool). unless a (length (d .line))) (le-leb (length (d .line)) (length (call .buffer)) (le-trans short (call .room)))))
+          (six-alone _ _ _ _ (d .inactive) fault table (state .pairs) (has-room (d .line) (call .buffer) short (call .room)))
 
       one : d .inactive ≡ none → printedAs (call .answer) (call .last) ≡ record { after = d .after; says = gives (record { length = length (d .line); next = d .next }); buffer = onto (d .line) (call .buffer) }
       unfolding printing
@@ -248,9 +231,9 @@ module _ (file : List ℕ) (t : Table) where
 
   -- the header
   went-header : (s : State) (events : ℕ) (call : Call file t s (cursor.Header events)) → Moment file t (pairs s) events 0 → Went s (cursor.Header events) call
-  unfolding coming toWrite At
+  unfolding coming toWrite At left
   went-header s events call now =
-      on scheduleHeader (cursor.Record events 0) (ap (λ (x : Printing). x .says) made) (ap (λ (x : Printing). x .buffer) made)
+      on scheduleHeader (cursor.Record events 0) (omega arith) (omega arith) (ap (λ (x : Printing). x .says) made) (ap (λ (x : Printing). x .buffer) made)
       (ap (λ (x : Pairs). scheduleHeader ++ still file t x events 0) (sym same-state))
       (subst (λ (x : Pairs). Moment file t x events 0) (sym same-state) now)
     where
@@ -265,7 +248,7 @@ module _ (file : List ℕ) (t : Table) where
 
   -- a record, or the end
   went-record : (s : State) (at ticks : ℕ) (call : Call file t s (cursor.Record at ticks)) → Moment file t (pairs s) at ticks → Went s (cursor.Record at ticks) call
-  unfolding coming toWrite At bytesOf
+  unfolding coming toWrite At left bytesOf
   went-record s at ticks call now = go (eqb at (length file)) refl
     where
       limit : overLimit file ≡ none
@@ -274,7 +257,7 @@ module _ (file : List ℕ) (t : Table) where
       go : (a : Bool) → eqb at (length file) ≡ a → Went s (cursor.Record at ticks) call
       go true e =
           let made = one s (cursor.Record at ticks) call (plain file (pairs s) (endLine ticks) next.Nothing) (rw e) limit (no-longer (line.End ticks)) (now .table) (now .state) refl in
-          over (endLine ticks) (ap (λ (x : Printing). x .says) made) (ap (λ (x : Printing). x .buffer) made) (still-ends file t (pairs s) at ticks now (eqb-true at (length file) e))
+          over (endLine ticks) (no-longer (line.End ticks)) (ap (λ (x : Printing). x .says) made) (ap (λ (x : Printing). x .buffer) made) (still-ends file t (pairs s) at ticks now (eqb-true at (length file) e))
       go false e = played (inactive t (pairs s) (eventAt t (pairs s) file (kindAt file at) at)) refl
         where
           inside : at < length file
@@ -292,6 +275,7 @@ module _ (file : List ℕ) (t : Table) where
           played : (v : Option ℕ) → inactive t (pairs s) (eventAt t (pairs s) file (kindAt file at) at) ≡ v → Went s (cursor.Record at ticks) call
           played none f =
               on (eventLine ticks (eventAt t (pairs s) file (kindAt file at) at)) (cursor.Record (nextAt file at) (ticksOn ticks (eventAt t (pairs s) file (kindAt file at) at)))
+              (event-short ticks (eventAt t (pairs s) file (kindAt file at) at)) (let further : at + 6 ≤ nextAt file at = far file t (pairs s) at ticks now inside in omega (arith, further, inside))
               (ap (λ (x : Printing). x .says) made) (ap (λ (x : Printing). x .buffer) made)
               (goes ∙ unless-none _ f ∙ (λ i. eventLine ticks (eventAt t (pairs s) file (kindAt file at) at) ++ still file t (same-state i) (nextAt file at) (same-ticks i)))
               (subst (λ (x : Pairs). Moment file t x (nextAt file at) (ticksOn ticks (eventAt t (pairs s) file (kindAt file at) at))) same-state
@@ -309,7 +293,7 @@ module _ (file : List ℕ) (t : Table) where
               let made = none-made s (cursor.Record at ticks) call (eventComing file t (pairs s) at ticks) here sound (event-short ticks (eventAt t (pairs s) file (kindAt file at) at)) (now .table) (now .state) i f in
               out i (ap (λ (x : Printing). x .says) made) (goes ∙ unless-some _ i f)
 
-  went : (s : State) (c : Cursor) (call : Call file t s c) → At (pairs s) c → Went s c call
+  pub went : (s : State) (c : Cursor) (call : Call file t s c) → At (pairs s) c → Went s c call
   unfolding At
   went s (cursor.Header events) call now = went-header s events call now
   went s (cursor.Record at ticks) call now = went-record s at ticks call now
@@ -319,7 +303,7 @@ module _ (file : List ℕ) (t : Table) where
   joined (goes-on {s} {c} {rest} call n then made-is later) now = finish (went s c call now) (λ (a : At (pairs (call .answer .state)) then). joined later a)
     where
       finish : Went s c call → (At (pairs (call .answer .state)) then → rest ≡ toWrite (pairs (call .answer .state)) then) → take n (call .last) ++ rest ≡ toWrite (pairs s) c
-      finish (on bytes further e f g h) ih =
+      finish (on bytes further m l e f g h) ih =
           (λ i. taken n bytes (call .buffer) (call .last) (ap (λ (x : OneLine). x .length) same) f i ++ (ih (subst (At (pairs (call .answer .state))) (sym then-is) h) ∙ ap (toWrite (pairs (call .answer .state))) then-is) i)
           ∙ sym g
         where
@@ -328,117 +312,128 @@ module _ (file : List ℕ) (t : Table) where
 
           then-is : then ≡ further
           then-is = let lines : next.Line then ≡ next.Line further = ap (λ (x : OneLine). x .next) same in cc
-      finish (over bytes e f g) ih = line-is-nothing (ap (λ (x : OneLine). x .next) (given-as (sym (ap madeAs made-is) ∙ e)))
+      finish (over bytes m e f g) ih = line-is-nothing (ap (λ (x : OneLine). x .next) (given-as (sym (ap madeAs made-is) ∙ e)))
       finish (out i e g) ih = never-both (sym (ap madeAs made-is) ∙ e)
   joined (ends {s} {c} call n made-is) now = finish (went s c call now)
     where
       finish : Went s c call → take n (call .last) ≡ toWrite (pairs s) c
-      finish (on bytes further e f g h) = line-is-nothing (sym (ap (λ (x : OneLine). x .next) (given-as (sym (ap madeAs made-is) ∙ e))))
-      finish (over bytes e f g) = taken n bytes (call .buffer) (call .last) (ap (λ (x : OneLine). x .length) (given-as (sym (ap madeAs made-is) ∙ e))) f ∙ sym g
+      finish (on bytes further m l e f g h) = line-is-nothing (sym (ap (λ (x : OneLine). x .next) (given-as (sym (ap madeAs made-is) ∙ e))))
+      finish (over bytes m e f g) = taken n bytes (call .buffer) (call .last) (ap (λ (x : OneLine). x .length) (given-as (sym (ap madeAs made-is) ∙ e))) f ∙ sym g
       finish (out i e g) = never-both (sym (ap madeAs made-is) ∙ e)
   joined (stops {s} {c} {output} call q made-is written) now = finish (went s c call now)
     where
       finish : Went s c call → output ≡ toWrite (pairs s) c
-      finish (on bytes further e f g h) = never-both (sym e ∙ ap madeAs made-is)
-      finish (over bytes e f g) = never-both (sym e ∙ ap madeAs made-is)
+      finish (on bytes further m l e f g h) = never-both (sym e ∙ ap madeAs made-is)
+      finish (over bytes m e f g) = never-both (sym e ∙ ap madeAs made-is)
       finish (out i e g) = refused-written q output written ∙ ap refusedLine (refused-as (sym (ap madeAs made-is) ∙ e)) ∙ sym g
 
+-- ---- how much there can be to write
+schedule-short : (file : List ℕ) (t : Table) (s : Pairs) (ticks : ℕ) (rs : List Record) → length (scheduleFrom t file s ticks rs) ≤ 64 * (length rs + 1)
+unfolding scheduleFrom unlessInactive bytesOf
+schedule-short file t s ticks [] = no-longer (line.End ticks)
+schedule-short file t s ticks (r ∷ rs) =
+    go (inactive t s (eventAt t s file (r .kind) (r .at))) (schedule-short file t (after t s (eventAt t s file (r .kind) (r .at))) (ticksAfter ticks (eventAt t s file (r .kind) (r .at))) rs)
+  where
+    go : (v : Option ℕ) → length (scheduleFrom t file (after t s (eventAt t s file (r .kind) (r .at))) (ticksAfter ticks (eventAt t s file (r .kind) (r .at))) rs) ≤ 64 * (length rs + 1)
+        → length (unlessInactive v (eventLine ticks (eventAt t s file (r .kind) (r .at)) ++ scheduleFrom t file (after t s (eventAt t s file (r .kind) (r .at))) (ticksAfter ticks (eventAt t s file (r .kind) (r .at))) rs)) ≤ 64 * (suc (length rs) + 1)
+    go none h =
+        let short = event-short ticks (eventAt t s file (r .kind) (r .at)) in
+        let joined-length = length-append (eventLine ticks (eventAt t s file (r .kind) (r .at))) (scheduleFrom t file (after t s (eventAt t s file (r .kind) (r .at))) (ticksAfter ticks (eventAt t s file (r .kind) (r .at))) rs) in
+        omega (arith, short, h, joined-length)
+    go (some i) h = let short : length (refusedLine (record { number = 6; second = i })) ≤ 64 = no-longer (line.Refused (NotActive i)) in omega (arith, short)
+
+records-few : (kinds file : List ℕ) (rounds before at : ℕ) → length (readFrom kinds file rounds before at .records) ≤ rounds
+unfolding readFrom
+records-few kinds file zero before at = le-refl 0
+records-few kinds file (suc rounds) before at = go (leb (length file) at) (isRecord kinds before file at) (records-few kinds file rounds (kindAt file at) (nextAt file at))
+  where
+    rest : Reading
+    rest = readFrom kinds file rounds (kindAt file at) (nextAt file at)
+
+    chosen : Bool → Bool → Reading
+    chosen a b = cond a (record { records = []; fault = none }) (cond b (andThen (record { kind = kindAt file at; at = at }) rest) (record { records = []; fault = some at }))
+
+    go : (a b : Bool) → length (rest .records) ≤ rounds → length (chosen a b .records) ≤ suc rounds
+    go true b h = omega arith
+    go false true h = omega arith
+    go false false h = omega arith
+
+pub little-to-write : (file : List ℕ) (t : Table) (s : Pairs) (c : Cursor) → At file t s c → length (toWrite file t s c) ≤ 4194432
+unfolding At toWrite still from
+little-to-write file t s (cursor.Header events) now =
+    let few = records-few meterKinds file (length file) 3 events in
+    let short = schedule-short file t s 0 (readFrom meterKinds file (length file) 3 events .records) in
+    let small : length file ≤ mostBytes = now .small in
+    let all = length-append scheduleHeader (scheduleFrom t file s 0 (readFrom meterKinds file (length file) 3 events .records)) in
+    omega (arith, few, short, small, all)
+little-to-write file t s (cursor.Record at ticks) now =
+    let few = records-few meterKinds file (length file) 3 at in
+    let short = schedule-short file t s ticks (readFrom meterKinds file (length file) 3 at .records) in
+    let small : length file ≤ mostBytes = now .small in
+    omega (arith, few, short, small)
+
 -- ---- the theorem
-module _ (file : List ℕ) (m : MeterFile) (judged : JudgeFileIs file m) where
-  -- a refused file
-  why : (q : Refusal) → m .verdict ≡ verdict.Refused q → refusalOf file ≡ some (refusedAs q)
-  unfolding judging
-  why q e = go (refusalOf file) (ap (λ (x : Judged). x .refused) judged)
+module _ (file : List ℕ) (m : MeterFile) (judged : JudgeFileIs file m) (good : m .verdict ≡ verdict.Good) where
+  small : length file ≤ mostBytes
+  small = ⊎-elim (λ l. some-is-none (sym (ap (λ (x : Reading). x .fault) (reading-large meterKinds file l)) ∙ whole file m judged good)) (λ l. l) (below-or-not mostBytes (length file))
+
+  events : EventsFrom meterKinds file (eventsIn file)
+  unfolding eventsIn
+  events =
+      subst (λ (x : Reading). EventsFrom meterKinds file (eventsOf (x .records))) (sym read-all)
+      (events-from meterKinds file (length file) 0 0 (omega arith) (ap (λ (x : Reading). x .fault) (sym read-all) ∙ whole file m judged good))
     where
-      go : (o : Option Refused) → verdictAs (m .verdict) ≡ judging o file .refused → o ≡ some (refusedAs q)
-      go none h = none-is-some (sym h ∙ verdict-refused (m .verdict) q e)
-      go (some r) h = sym h ∙ verdict-refused (m .verdict) q e
+      read-all : reading meterKinds file ≡ readFrom meterKinds file (length file) 0 0
+      read-all = reading-small meterKinds file small
 
-  -- and one that isn't
-  module _ (good : m .verdict ≡ verdict.Good) where
-    fine : refusalOf file ≡ none
-    unfolding judging
-    fine = go (refusalOf file) (ap (λ (x : Judged). x .refused) judged)
-      where
-        go : (o : Option Refused) → verdictAs (m .verdict) ≡ judging o file .refused → o ≡ none
-        go none h = refl
-        go (some r) h = none-is-some (sym (verdict-good (m .verdict) good) ∙ h)
+  -- the moment of the header, with the table and the state of the definitions
+  pub first-moment : Moment file (tableOf file) (freshOf (tableOf file)) (beginning (eventsIn file) (length file)) 0
+  unfolding from
+  first-moment =
+      record {
+        small = small;
+        table = in-range file m judged good;
+        state = fresh-in-range (tableOf file .count) (tableOf file .period) (tableOf file .budget) (tableOf file .phase) (in-range file m judged good);
+        inside = events .inside;
+        sound = ap (λ (x : Reading). x .fault) (events .read);
+        few = omega arith;
+      }
 
-    holds : judgedAs m ≡ record { table = tableOf file; tasks = tasksOf file; events = beginning (eventsIn file) (length file); refused = none }
-    unfolding judging
-    holds = judged ∙ ap (λ (o : Option Refused). judging o file) fine
-
-    whole : reading meterKinds file .fault ≡ none
-    unfolding refusalOf has
-    whole = no-ground _ fine 8 refl
-
-    in-range : TableInRange (tableOf file .count) (tableOf file .period) (tableOf file .budget) (tableOf file .phase)
-    unfolding refusalOf has
-    in-range = no-ground _ fine 1 refl
-
-    admitted : firstUnadmitted (tableOf file .count) (tableOf file .period) (tableOf file .budget) ≡ none
-    unfolding refusalOf has
-    admitted = no-ground _ fine 2 refl
-
-    small : length file ≤ mostBytes
-    small = ⊎-elim (λ l. some-is-none (sym (ap (λ (x : Reading). x .fault) (reading-large meterKinds file l)) ∙ whole)) (λ l. l) (below-or-not mostBytes (length file))
-
-    events : EventsFrom meterKinds file (eventsIn file)
-    unfolding eventsIn
-    events =
-        subst (λ (x : Reading). EventsFrom meterKinds file (eventsOf (x .records))) (sym read-all)
-        (events-from meterKinds file (length file) 0 0 (omega arith) (ap (λ (x : Reading). x .fault) (sym read-all) ∙ whole))
-      where
-        read-all : reading meterKinds file ≡ readFrom meterKinds file (length file) 0 0
-        read-all = reading-small meterKinds file small
-
-    begins : (old : State) (start : Changed) → FreshIs (m .table) old start → pairs (start .state) ≡ freshOf (tableOf file)
+  -- and with those of the calls
+  module _ (old : State) (start : Changed) (fresh : FreshIs (m .table) old start) where
+    pub begins : pairs (start .state) ≡ freshOf (tableOf file)
     unfolding change
-    begins old start fresh =
+    begins =
         ap (λ (x : Change). x .after)
         (fresh
-        ∙ ap (λ (t : Table). change (refusal (badTable (t .count) (t .period) (t .budget) (t .phase) ∷ notAdmitted (t .count) (t .period) (t .budget) ∷ [])) (pairs old) (freshOf t)) (ap (λ (x : Judged). x .table) holds)
+        ∙ ap (λ (t : Table). change (refusal (badTable (t .count) (t .period) (t .budget) (t .phase) ∷ notAdmitted (t .count) (t .period) (t .budget) ∷ [])) (pairs old) (freshOf t)) (table-is file m judged good)
         ∙ ap (λ (o : Option Refused). change o (pairs old) (freshOf (tableOf file))) none-against)
       where
         none-against : refusal (badTable (tableOf file .count) (tableOf file .period) (tableOf file .budget) (tableOf file .phase) ∷ notAdmitted (tableOf file .count) (tableOf file .period) (tableOf file .budget) ∷ []) ≡ none
-        none-against = two-none _ _ in-range admitted
+        none-against = two-none _ _ (in-range file m judged good) (admitted file m judged good)
 
-    -- the moment of the header
-    pub first-moment : Moment file (tableOf file) (freshOf (tableOf file)) (beginning (eventsIn file) (length file)) 0
-    unfolding from
-    first-moment =
-        record {
-          small = small;
-          table = in-range;
-          state = fresh-in-range (tableOf file .count) (tableOf file .period) (tableOf file .budget) (tableOf file .phase) in-range;
-          inside = events .inside;
-          sound = ap (λ (x : Reading). x .fault) (events .read);
-          few = omega arith;
-        }
+    pub start-moment : Moment file (m .table) (pairs (start .state)) (m .events) 0
+    start-moment =
+        subst (λ (x : Judged). Moment file (x .table) (pairs (start .state)) (x .events) 0) (sym (holds file m judged good))
+        (subst (λ (p : Pairs). Moment file (tableOf file) p (beginning (eventsIn file) (length file)) 0) (sym begins) first-moment)
 
-    -- all that the calls write
-    pub all-written : (old : State) (start : Changed) → FreshIs (m .table) old start → {output : List ℕ} → Lines file (m .table) (start .state) (cursor.Header (m .events)) output
-        → output ≡ scheduleHeader ++ scheduleFrom (tableOf file) file (freshOf (tableOf file)) 0 (eventsIn file)
-    unfolding toWrite At still from
-    all-written old start fresh lines =
-        joined file (m .table) lines (subst (λ (x : Table). Moment file x (pairs (start .state)) (m .events) 0) (sym table-is) here)
-        ∙ (λ i. scheduleHeader ++ scheduleFrom (table-is i) file (begins old start fresh i) 0 (readFrom meterKinds file (length file) 3 (events-are i) .records))
+    pub start-at : At file (m .table) (pairs (start .state)) (cursor.Header (m .events))
+    unfolding At
+    start-at = start-moment
+
+    -- all that is to be written
+    pub all-to-write : toWrite file (m .table) (pairs (start .state)) (cursor.Header (m .events)) ≡ scheduleHeader ++ scheduleFrom (tableOf file) file (freshOf (tableOf file)) 0 (eventsIn file)
+    unfolding toWrite still from
+    all-to-write =
+        (λ i. scheduleHeader ++ scheduleFrom (table-is file m judged good i) file (begins i) 0 (readFrom meterKinds file (length file) 3 (events-are file m judged good i) .records))
         ∙ ap (λ (x : Reading). scheduleHeader ++ scheduleFrom (tableOf file) file (freshOf (tableOf file)) 0 (x .records)) (events .read)
-      where
-        table-is : m .table ≡ tableOf file
-        table-is = ap (λ (x : Judged). x .table) holds
 
-        events-are : m .events ≡ beginning (eventsIn file) (length file)
-        events-are = ap (λ (x : Judged). x .events) holds
-
-        here : Moment file (tableOf file) (pairs (start .state)) (m .events) 0
-        here = subst (λ (k : ℕ). Moment file (tableOf file) (pairs (start .state)) k 0) (sym events-are) (subst (λ (p : Pairs). Moment file (tableOf file) p (beginning (eventsIn file) (length file)) 0) (sym (begins old start fresh)) first-moment)
+    -- is what the calls write
+    pub all-written : {output : List ℕ} → Lines file (m .table) (start .state) (cursor.Header (m .events)) output
+        → output ≡ scheduleHeader ++ scheduleFrom (tableOf file) file (freshOf (tableOf file)) 0 (eventsIn file)
+    all-written lines = joined file (m .table) lines start-at ∙ all-to-write
 
 pub schedule-printed : (file : List ℕ) {output : List ℕ} → SchedulePrinted file output → output ≡ scheduleOutput file
-unfolding scheduleOutput unlessRefusedFile
-schedule-printed file (calls.refused {output} m judged q e written) =
-    refused-written q output written
-    ∙ sym (ap (λ (o : Option Refused). unlessRefusedFile o (scheduleHeader ++ scheduleFrom (tableOf file) file (freshOf (tableOf file)) 0 (eventsIn file))) (why file m judged q e))
-schedule-printed file (calls.printed {output} m judged good old start fresh lines) =
-    all-written file m judged good old start fresh lines
-    ∙ sym (ap (λ (o : Option Refused). unlessRefusedFile o (scheduleHeader ++ scheduleFrom (tableOf file) file (freshOf (tableOf file)) 0 (eventsIn file))) (fine file m judged good))
+unfolding scheduleOutput
+schedule-printed file (calls.refused {output} m judged q e written) = refused-written q output written ∙ sym (output-refused file m judged q e _)
+schedule-printed file (calls.printed {output} m judged good old start fresh lines) = all-written file m judged good old start fresh lines ∙ sym (output-good file m judged good _)

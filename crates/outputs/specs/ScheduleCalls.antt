@@ -12,24 +12,13 @@ use Rattle.scheduler.specs.declared.Changed.{Changed}
 use Rattle.whole_file.specs.Promises.{JudgeFileIs}
 use Rattle.whole_file.specs.declared.MeterFile.{MeterFile}
 use Rattle.lines.specs.Lines.{longestLine}
-use Rattle.lines.specs.Promises.{WriteLineIs}
-use Rattle.lines.specs.declared.Line.the-variants as line
-use Rattle.lines.specs.declared.Written.the-variants as written
 use Rattle.schedule_lines.specs.Promises.{ScheduleLineIs}
 use Rattle.schedule_lines.specs.declared.Cursor.{Cursor}
 use Rattle.schedule_lines.specs.declared.Cursor.the-variants as cursor
 use Rattle.schedule_lines.specs.declared.Next.the-variants as next
 use Rattle.schedule_lines.specs.declared.Made.the-variants as made
 use Rattle.schedule_lines.specs.declared.Printed.{Printed}
-
--- the line of a refusal, by the call that prints refusals, into a buffer that holds any line
-pub record RefusedWith (q : Refusal) (output : List ℕ) : Type 0 where
-  pub buffer : List ℕ
-  pub room : longestLine ≤ length buffer
-  pub count : ℕ
-  pub last : List ℕ
-  pub call : WriteLineIs (line.Refused q) buffer (written.Bytes count) last
-  pub bytes : output ≡ take count last
+use Rattle.outputs.specs.RefusalCall.{RefusedWith}
 
 -- one call for a line, into a buffer that holds any line
 pub record Call (file : List ℕ) (t : Table) (s : State) (c : Cursor) : Type 0 where

@@ -1,0 +1,40 @@
+-- A line in the buffer of its call: there is room for any, and what is taken out again is the line; that of a refusal too.
+use Prim.Native.Nat.{ℕ, _≤_}
+use mathlib.Core.Path.{_≡_, _∙_, ap}
+use mathlib.Core.Bool.{Bool}
+use mathlib.Core.List.{List}
+use mathlib.Core.Option.{none}
+use native.Mathlib.Nat.{le-trans}
+use borrow.Author.Tests.{le-leb}
+use lib.Dec.{leb}
+use lib.ListN.{length, take, drop}
+use lib.Seq.{take-append-seam}
+use Rattle.basis.specs.Words.{unless}
+use Rattle.rules.specs.Refusals.{refusedAs}
+use Rattle.rules.specs.Printers.{refusedLine}
+use Rattle.rules.specs.declared.Refusal.{Refusal}
+use Rattle.lines.specs.Lines.{bytesOf, longestLine}
+use Rattle.lines.specs.Promises.{onto}
+use Rattle.lines.specs.declared.Line.the-variants as line
+use Rattle.lines.specs.declared.Written.the-variants as written
+use Rattle.lines.proofs.Calls.{always-written}
+use Rattle.outputs.specs.RefusalCall.{RefusedWith}
+
+-- 7 isn't against a line in a buffer that holds any
+pub has-room : (bytes buffer : List ℕ) → length bytes ≤ longestLine → longestLine ≤ length buffer → unless (leb (length bytes) (length buffer)) (length bytes) ≡ none
+has-room bytes buffer short room = ap (λ (a : Bool). unless a (length bytes)) (le-leb (length bytes) (length buffer) (le-trans short room))
+
+-- a line at the start of a buffer
+pub taken : (n : ℕ) (bytes buffer last : List ℕ) → n ≡ length bytes → last ≡ onto bytes buffer → take n last ≡ bytes
+taken n bytes buffer last e f = (λ i. take (e i) (f i)) ∙ take-append-seam bytes (drop (length bytes) buffer)
+
+-- the line of a refusal
+pub refused-written : (q : Refusal) (output : List ℕ) → RefusedWith q output → output ≡ refusedLine (refusedAs q)
+unfolding bytesOf
+refused-written q output w =
+    let said = always-written (line.Refused q) (w .buffer) (written.Bytes (w .count)) (w .last) (w .room) (w .call) in
+    let count : w .count ≡ length (refusedLine (refusedAs q)) = same (said .0) in
+    w .bytes ∙ taken (w .count) (refusedLine (refusedAs q)) (w .buffer) (w .last) count (said .1)
+  where
+    same : {n m : ℕ} → written.Bytes n ≡ written.Bytes m → n ≡ m
+    same e = cc

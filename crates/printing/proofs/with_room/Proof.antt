@@ -1,0 +1,21 @@
+use mathlib.Core.Path.{sym}
+use lib.Seq.{length-take-le}
+use borrow.Author.Needs.{needs}
+use Rattle.printing.proofs.with_room.Statement.{statement}
+use Rattle.printing.proofs.with_room.Tie as tie
+
+returns : tie.Need-returns
+returns c = search needs
+
+slice-aggregate-write-all : tie.Need-slice-aggregate-write-all
+slice-aggregate-write-all c = sym (length-take-le _ _ (c .before .before .before .pre))
+
+write-all-requires : tie.Need-write-all-requires
+write-all-requires c κs = search needs
+
+returns-2 : tie.Need-returns-2
+returns-2 c = search needs
+
+pub with-room-spec : {M : Type 1} → statement M
+with-room-spec =
+    tie.close (tie.spec returns slice-aggregate-write-all write-all-requires returns-2)

@@ -1,0 +1,12 @@
+-- What each public function of this crate promises of its answer r: how many bytes the whole output has.
+use Prim.Native.Nat.{ℕ}
+use mathlib.Core.Path.{_≡_}
+use mathlib.Core.List.{List}
+use lib.ListN.{length}
+use Rattle.rules.specs.Printers.{scheduleOutput, responseOutput}
+
+abbrev pub PrintScheduleIs : List ℕ → ℕ → Type 0
+PrintScheduleIs file r = r ≡ length (scheduleOutput file)
+
+abbrev pub PrintResponseIs : List ℕ → ℕ → Type 0
+PrintResponseIs file r = r ≡ length (responseOutput file)
