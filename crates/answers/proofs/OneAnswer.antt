@@ -4,6 +4,7 @@ use mathlib.Core.Path.{_≡_, refl, sym, _∙_, ap}
 use mathlib.Core.Bool.{Bool}
 use mathlib.Core.List.{List}
 use mathlib.Core.Option.{some}
+use Rattle.rules.specs.declared.Refusal.{Refusal}
 use Rattle.rules.specs.declared.Table.{Table}
 use Rattle.rules.specs.declared.Tasks.{Tasks}
 use Rattle.laws.proofs.Tests.{none-is-some, some-is-none}
@@ -40,6 +41,31 @@ use Rattle.responses.specs.Answers.{responseAs}
 use Rattle.responses.specs.Promises.{TaskResponseIs}
 use Rattle.responses.specs.declared.Response.{Response}
 use Rattle.responses.specs.declared.Response.the-variants as response
+use Rattle.meter.specs.Forms.{readAs}
+use Rattle.meter.specs.Promises.{TwoIs, FourIs, ReadRecordIs, PayloadIs, WhyRefusedIs}
+use Rattle.meter.specs.declared.Read.{Read}
+use Rattle.meter.specs.declared.Read.the-variants as read
+use Rattle.whole_file.specs.Promises.{Judged, judgedAs, JudgeFileIs}
+use Rattle.whole_file.specs.declared.MeterFile.{MeterFile}
+use Rattle.lines.specs.Lines.{writtenAs}
+use Rattle.lines.specs.Promises.{Writing, LineLengthIs, WriteLineIs}
+use Rattle.lines.specs.declared.Line.{Line}
+use Rattle.lines.specs.declared.Written.{Written}
+use Rattle.lines.specs.declared.Written.the-variants as written
+use Rattle.replay.specs.Promises.{eventAs, Replaying, replayedAs, ReplayIs}
+use Rattle.replay.specs.declared.Event.{Event}
+use Rattle.replay.specs.declared.Event.the-variants as event
+use Rattle.replay.specs.declared.Replayed.{Replayed}
+use Rattle.schedule_lines.specs.Promises.{madeAs, Printing, printedAs, ScheduleLineIs}
+use Rattle.schedule_lines.specs.declared.Cursor.{Cursor}
+use Rattle.schedule_lines.specs.declared.Made.{Made}
+use Rattle.schedule_lines.specs.declared.Made.the-variants as made
+use Rattle.schedule_lines.specs.declared.Printed.{Printed}
+use Rattle.response_lines.specs.Promises.{OneLine as OneRow, Printing as RowPrinting, madeAs as rowMadeAs, ResponseLineIs}
+use Rattle.response_lines.specs.declared.Cursor.{Cursor as RowCursor}
+use Rattle.response_lines.specs.declared.Made.{Made as RowMade}
+use Rattle.response_lines.specs.declared.Made.the-variants as row
+use Rattle.printing.specs.Promises.{PrintScheduleIs, PrintResponseIs}
 
 -- ---- no two cases of an enum have the same number and values
 taken : {A : Type 0} {x y : A} → some x ≡ some y → x ≡ y
@@ -92,6 +118,41 @@ response-injective (response.Ticks x) (response.Refused q) e = never-both e
 response-injective (response.Refused p) (response.Ticks y) e = never-both (sym e)
 response-injective (response.Refused p) (response.Refused q) e = ap response.Refused (refused-injective p q (refused-as e))
 
+pub read-injective : (r s : Read) → readAs r ≡ readAs s → r ≡ s
+read-injective (read.Record kind next) (read.Record other further) e = λ i. read.Record (given-as e i .kind) (given-as e i .next)
+read-injective (read.Record kind next) (read.Refused q) e = never-both e
+read-injective (read.Refused p) (read.Record other further) e = never-both (sym e)
+read-injective (read.Refused p) (read.Refused q) e = ap read.Refused (refused-injective p q (refused-as e))
+
+pub written-injective : (r s : Written) → writtenAs r ≡ writtenAs s → r ≡ s
+written-injective (written.Bytes x) (written.Bytes y) e = ap written.Bytes (given-as e)
+written-injective (written.Bytes x) (written.Refused q) e = never-both e
+written-injective (written.Refused p) (written.Bytes y) e = never-both (sym e)
+written-injective (written.Refused p) (written.Refused q) e = ap written.Refused (refused-injective p q (refused-as e))
+
+pub event-injective : (r s : Event) → eventAs r ≡ eventAs s → r ≡ s
+event-injective (event.Ticked x) (event.Ticked y) e = cc
+event-injective (event.Ticked x) (event.Released y) e = cc
+event-injective (event.Ticked x) (event.Refused q) e = never-both e
+event-injective (event.Released x) (event.Ticked y) e = cc
+event-injective (event.Released x) (event.Released y) e = cc
+event-injective (event.Released x) (event.Refused q) e = never-both e
+event-injective (event.Refused p) (event.Ticked y) e = never-both (sym e)
+event-injective (event.Refused p) (event.Released y) e = never-both (sym e)
+event-injective (event.Refused p) (event.Refused q) e = ap event.Refused (refused-injective p q (refused-as e))
+
+pub made-injective : (r s : Made) → madeAs r ≡ madeAs s → r ≡ s
+made-injective (made.Line length next) (made.Line other further) e = λ i. made.Line (given-as e i .length) (given-as e i .next)
+made-injective (made.Line length next) (made.Refused q) e = never-both e
+made-injective (made.Refused p) (made.Line other further) e = never-both (sym e)
+made-injective (made.Refused p) (made.Refused q) e = ap made.Refused (refused-injective p q (refused-as e))
+
+pub row-made-injective : (r s : RowMade) → rowMadeAs r ≡ rowMadeAs s → r ≡ s
+row-made-injective (row.Line n x) (row.Line m y) e = ap (λ (l : OneRow). row.Line (l .length) (l .next)) (given-as e)
+row-made-injective (row.Line n x) (row.Refused q) e = never-both e
+row-made-injective (row.Refused p) (row.Line m y) e = never-both (sym e)
+row-made-injective (row.Refused p) (row.Refused q) e = ap row.Refused (refused-injective p q (refused-as e))
+
 -- ---- nor do two answers that hold an array or a state
 listed-injective : (r s : Listed) → listedAs r ≡ listedAs s → r ≡ s
 listed-injective r s e = λ i. record { list = e i .list; length = e i .length; verdict = verdict-injective (r .verdict) (s .verdict) (ap (λ (x : Listing). x .refused) e) i }
@@ -110,6 +171,18 @@ stepped-injective r s e =
 
 ran-injective : (r s : Changed) (x y : List ℕ) → ranAs r x ≡ ranAs s y → r ≡ s
 ran-injective r s x y e = changed-injective r s (λ i. record { after = e i .after; refused = e i .refused })
+
+judged-injective : (r s : MeterFile) → judgedAs r ≡ judgedAs s → r ≡ s
+judged-injective r s e =
+    λ i. record { table = e i .table; tasks = e i .tasks; events = e i .events; verdict = verdict-injective (r .verdict) (s .verdict) (ap (λ (x : Judged). x .refused) e) i }
+
+replayed-injective : (r s : Replayed) → replayedAs r ≡ replayedAs s → r ≡ s
+replayed-injective r s e =
+    λ i. record { state = record { b = e i .after .b; o = e i .after .o }; event = event-injective (r .event) (s .event) (ap (λ (x : Replaying). x .says) e) i; next = e i .next }
+
+printed-injective : (r s : Printed) (x y : List ℕ) → printedAs r x ≡ printedAs s y → r ≡ s
+printed-injective r s x y e =
+    λ i. record { state = record { b = e i .after .b; o = e i .after .o }; made = made-injective (r .made) (s .made) (ap (λ (z : Printing). z .says) e) i }
 
 -- ---- the theorems, crate by crate
 module _ (n : ℕ) (T B phase b o : List ℕ) where
@@ -194,3 +267,51 @@ module _ (t : Table) (now : State) where
 
 pub task-response-one : (t : Table) (k : Tasks) (i : ℕ) (r s : Response) → TaskResponseIs t k i r → TaskResponseIs t k i s → r ≡ s
 task-response-one t k i r s p q = response-injective r s (p ∙ sym q)
+
+pub two-one : (part : List ℕ) (at r s : ℕ) → TwoIs part at r → TwoIs part at s → r ≡ s
+two-one part at r s p q = p ∙ sym q
+
+pub four-one : (part : List ℕ) (at r s : ℕ) → FourIs part at r → FourIs part at s → r ≡ s
+four-one part at r s p q = p ∙ sym q
+
+module _ (kinds : List ℕ) (before : ℕ) (file : List ℕ) (at : ℕ) where
+  pub read-record-one : (r s : Read) → ReadRecordIs kinds before file at r → ReadRecordIs kinds before file at s → r ≡ s
+  read-record-one r s p q = read-injective r s (p ∙ sym q)
+
+  -- the bytes of the part that is handed back
+  pub payload-one : (r s : List ℕ) → PayloadIs kinds before file at r → PayloadIs kinds before file at s → r ≡ s
+  payload-one r s p q = p ∙ sym q
+
+pub why-refused-one : (answer : Read) (r s : Refusal) → WhyRefusedIs answer r → WhyRefusedIs answer s → r ≡ s
+why-refused-one answer r s p q = refused-injective r s (p ∙ sym q)
+
+pub judge-file-one : (file : List ℕ) (r s : MeterFile) → JudgeFileIs file r → JudgeFileIs file s → r ≡ s
+judge-file-one file r s p q = judged-injective r s (p ∙ sym q)
+
+pub line-length-one : (l : Line) (r s : ℕ) → LineLengthIs l r → LineLengthIs l s → r ≡ s
+line-length-one l r s p q = p ∙ sym q
+
+-- the answer, and the buffer
+pub write-line-one : (l : Line) (buffer : List ℕ) (r s : Written) (x y : List ℕ) → WriteLineIs l buffer r x → WriteLineIs l buffer s y → (r ≡ s) × (x ≡ y)
+write-line-one l buffer r s x y p q = (written-injective r s (ap (λ (z : Writing). z .says) (p ∙ sym q)), ap (λ (z : Writing). z .buffer) (p ∙ sym q))
+
+module _ (t : Table) (now : State) (file : List ℕ) where
+  -- the state, what happened, and the next offset
+  pub replay-one : (at : ℕ) (r s : Replayed) → ReplayIs t now file at r → ReplayIs t now file at s → r ≡ s
+  replay-one at r s p q = replayed-injective r s (p ∙ sym q)
+
+  -- the state and what was made, and the buffer
+  pub schedule-line-one : (c : Cursor) (buffer : List ℕ) (r s : Printed) (x y : List ℕ) → ScheduleLineIs t now file c buffer r x → ScheduleLineIs t now file c buffer s y → (r ≡ s) × (x ≡ y)
+  schedule-line-one c buffer r s x y p q = (printed-injective r s x y (p ∙ sym q), ap (λ (z : Printing). z .buffer) (p ∙ sym q))
+
+-- the row and what comes next, and the buffer
+pub response-line-one : (t : Table) (k : Tasks) (c : RowCursor) (buffer : List ℕ) (r s : RowMade) (x y : List ℕ)
+    → ResponseLineIs t k c buffer r x → ResponseLineIs t k c buffer s y → (r ≡ s) × (x ≡ y)
+response-line-one t k c buffer r s x y p q =
+    (row-made-injective r s (ap (λ (z : RowPrinting). z .says) (p ∙ sym q)), ap (λ (z : RowPrinting). z .buffer) (p ∙ sym q))
+
+pub print-schedule-one : (file : List ℕ) (r s : ℕ) → PrintScheduleIs file r → PrintScheduleIs file s → r ≡ s
+print-schedule-one file r s p q = p ∙ sym q
+
+pub print-response-one : (file : List ℕ) (r s : ℕ) → PrintResponseIs file r → PrintResponseIs file s → r ≡ s
+print-response-one file r s p q = p ∙ sym q

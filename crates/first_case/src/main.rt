@@ -7,16 +7,8 @@ use scheduler::State;
 
 // A pick and a newline, in decimal.
 fn show(pick: u8) {
-    let text = [48 + pick / 100, 48 + pick / 10 % 10, 48 + pick % 10, 10u8];
-    if pick < 10 {
-        io::write_all(STDOUT_FILENO, &text[2..]);
-        return;
-    }
-    if pick < 100 {
-        io::write_all(STDOUT_FILENO, &text[1..]);
-        return;
-    }
-    io::write_all(STDOUT_FILENO, &text);
+    io::print_decimal(STDOUT_FILENO, pick as u64);
+    io::write_all(STDOUT_FILENO, b"\n");
 }
 
 fn show_all(picks: &[u8]) {

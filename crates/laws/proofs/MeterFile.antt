@@ -1,15 +1,15 @@
 -- The laws of records: what a record is, and where the next one begins.
-use Prim.Native.Nat.{ℕ, suc, _+_, _-_, _*_, _≤_, _<_}
+use Prim.Native.Nat.{ℕ, _+_, _-_, _*_, _≤_, _<_}
 use mathlib.Core.Path.{_≡_, refl, sym, ap₂, subst}
 use mathlib.Core.Bool.{Bool, true, false, cond, _&&_}
-use mathlib.Core.List.{List, [], _∷_}
-use mathlib.Core.Option.{Option, some, none}
+use mathlib.Core.List.{List, []}
+use mathlib.Core.Option.{some, none}
 use native.Mathlib.Nat.{lt-irrefl}
 use native.Mathlib.Omega.{arith}
-use borrow.Author.Tests.{leb-true, ltb-true, eqb-true, le-leb, lt-leb, lt-ltb, le-ltb, eq-eqb, ne-eqb}
+use borrow.Author.Tests.{leb-true, ltb-true, eqb-true, le-leb, lt-leb, lt-ltb, eq-eqb, ne-eqb}
 use lib.Dec.{leb, ltb, eqb}
 use lib.ListN.{length, List·getD-eq-default}
-use Rattle.basis.specs.Words.{_!_, has, orElse, unless, found}
+use Rattle.basis.specs.Words.{_!_, has, orElse, unless}
 use Rattle.rules.specs.Numbers.{mostBytes}
 use Rattle.rules.specs.MeterFile.{two, four, lengthAt, kindAt, payloadAt, nextAt, Form, form, isRecord, malformedAt, payload}
 use Rattle.laws.proofs.Tests.{and-left, and-right, some-is-none}

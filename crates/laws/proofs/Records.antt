@@ -8,7 +8,7 @@ use mathlib.Core.Option.{Option, some, none}
 use native.Mathlib.Nat.{le-refl, le-of-lt}
 use native.Mathlib.Omega.{arith}
 use borrow.Author.Tests.{lt-leb, le-leb, eq-eqb, ne-eqb, eqb-true}
-use lib.Dec.{leb, eqb}
+use lib.Dec.{eqb}
 use lib.ListN.{length, set, take, drop, length-append, length-map}
 use lib.Seq.{take-all, take-append-le, set-out, getD-take, getD-drop, length-take-le}
 use Rattle.basis.specs.Words.{_!_, padded}

@@ -25,11 +25,26 @@ fn form(kind: u16) -> Shape
     ensures { λ r. ⌜ shapeAs r ≡ formOf kind ⌝ }
 {
     match kind {
-        1 => Shape { length: 8, place: 1 },
-        2 => Shape { length: 8, place: 2 },
-        3 => Shape { length: 6, place: 3 },
-        4 => Shape { length: 4, place: 3 },
-        _ => Shape { length: 0, place: 0 },
+        1 => Shape {
+            length: 8,
+            place: 1,
+        },
+        2 => Shape {
+            length: 8,
+            place: 2,
+        },
+        3 => Shape {
+            length: 6,
+            place: 3,
+        },
+        4 => Shape {
+            length: 4,
+            place: 3,
+        },
+        _ => Shape {
+            length: 0,
+            place: 0,
+        },
     }
 }
 

@@ -51,14 +51,7 @@ fn with_room(fd: i32, out: &[u8], used: usize) -> usize
 }
 
 // Line by line, until there is no more or a line is refused.
-fn print_lines(
-    fd: i32,
-    file: &[u8],
-    t: Table,
-    start: State,
-    events: usize,
-    out: &mut [u8],
-) -> usize
+fn print_lines(fd: i32, file: &[u8], t: Table, start: State, events: usize, out: &mut [u8]) -> usize
     requires { ⌜ (length (now out) ≡ 4096) × (Moment (now file) t (pairs start) events 0) ⌝ }
     ensures { λ r. ⌜ r ≡ length (toWrite (now (file .entry)) t (pairs start) (Header events)) ⌝ }
 {

@@ -5,8 +5,7 @@ use mathlib.Core.List.{List, [], _∷_}
 use mathlib.Core.Option.{Option, some, none}
 use native.Mathlib.Omega.{arith}
 use borrow.Author.Tests.{eq-eqb, ne-eqb}
-use Rattle.rules.specs.Numbers.{Pairs}
-use Rattle.rules.specs.Refusals.{Refused, refusedAs, Ground, ground, malformed, refusal}
+use Rattle.rules.specs.Refusals.{Refused, refusedAs, Ground, malformed, refusal}
 use Rattle.rules.specs.MeterFile.{two, four, lengthAt, kindAt, payloadAt, nextAt, meterKinds, form, malformedAt}
 use Rattle.rules.specs.Pick.{decision}
 use Rattle.rules.specs.Tick.{tick}
@@ -18,8 +17,7 @@ use Rattle.laws.proofs.Tests.{none-is-some}
 use Rattle.laws.proofs.Refusals.{nothing-last, record-first, refused-first, refused-then, file-alone}
 use Rattle.laws.proofs.MeterFile.{payload-is, Whole, record-whole, form-long}
 use Rattle.laws.proofs.Records.{field-at, four-at}
-use Rattle.ranges.specs.Outcome.{Outcome, refused, gives}
-use Rattle.ranges.specs.Verdicts.{verdictAs}
+use Rattle.ranges.specs.Outcome.{refused, gives}
 use Rattle.ranges.specs.declared.Verdict.the-variants as verdict
 use Rattle.ranges.proofs.Verdicts.{verdict-refused, verdict-good}
 use Rattle.ranges.proofs.Outcomes.{refused-as, given-as, never-both}
@@ -36,7 +34,7 @@ use Rattle.meter.specs.declared.Read.the-variants as read
 use Rattle.meter.proofs.Records.{Told, told-refused, told-record}
 use Rattle.runs.specs.Promises.{Step, steppedAs, stepped, StepIs}
 use Rattle.runs.specs.declared.Stepped.{Stepped}
-use Rattle.replay.specs.Promises.{Replaying, replayedAs, replaying, againstEvent, DoneIs, ReplayIs}
+use Rattle.replay.specs.Promises.{Replaying, replaying, againstEvent, DoneIs, ReplayIs}
 use Rattle.replay.specs.declared.Event.the-variants as event
 use Rattle.replay.specs.declared.Replayed.{Replayed}
 

@@ -1,5 +1,5 @@
 -- The line of a record: from what was replayed to what the call says.
-use Prim.Native.Nat.{ℕ, _+_, _≤_, _<_}
+use Prim.Native.Nat.{ℕ, _≤_, _<_}
 use mathlib.Core.Path.{_≡_, refl, sym, _∙_, ap, subst}
 use mathlib.Core.Bool.{Bool, true, false, cond}
 use mathlib.Core.List.{List, [], _∷_}
@@ -11,7 +11,6 @@ use denote.Enum.Declared.{tagOf}
 use lib.Dec.{leb, eqb}
 use lib.ListN.{length}
 use Rattle.basis.specs.Words.{unless}
-use Rattle.rules.specs.Numbers.{Pairs}
 use Rattle.rules.specs.Refusals.{Refused, refusedAs, malformed, shortBuffer, refusal}
 use Rattle.rules.specs.MeterFile.{kindAt, nextAt, meterKinds, malformedAt}
 use Rattle.rules.specs.Release.{releaseAllowed}
@@ -21,9 +20,9 @@ use Rattle.rules.specs.declared.Refusal.{Refusal}
 use Rattle.rules.specs.declared.Refusal.the-variants.{BadPartition, NotAdmitted, BadPair, NoWord, NotListed, NotActive, ShortBuffer, BadRecord, BadTask}
 use Rattle.rules.proofs.Refusal.{the-type}
 use Rattle.rules.specs.declared.Table.{Table}
-use Rattle.laws.proofs.Tests.{none-is-some, some-is-none}
+use Rattle.laws.proofs.Tests.{none-is-some}
 use Rattle.laws.proofs.Refusals.{sevenOr, sevenFirst, seven-among, seven-alone, six-from}
-use Rattle.ranges.specs.Outcome.{Outcome, refused, gives}
+use Rattle.ranges.specs.Outcome.{refused, gives}
 use Rattle.ranges.proofs.Outcomes.{refused-as, given-as, never-both}
 use Rattle.scheduler.specs.States.{pairs}
 use Rattle.scheduler.specs.declared.State.{State}
@@ -35,9 +34,8 @@ use Rattle.replay.specs.Promises.{eventAs, Replaying, replayedAs, replaying, ag
 use Rattle.replay.specs.declared.Event.the-variants as event
 use Rattle.replay.specs.declared.Replayed.{Replayed}
 use Rattle.schedule_lines.specs.Coming.{Coming, countedOn, ticksOn, eventComing}
-use Rattle.schedule_lines.specs.Promises.{OneLine, Printing, madeAs, printedAs, printing, against, EventIs, PutIs, withSeven, RefusedIs}
+use Rattle.schedule_lines.specs.Promises.{printing, EventIs, PutIs, withSeven, RefusedIs}
 use Rattle.schedule_lines.specs.declared.Cursor.the-variants as cursor
-use Rattle.schedule_lines.specs.declared.Next.{Next}
 use Rattle.schedule_lines.specs.declared.Next.the-variants as next
 use Rattle.schedule_lines.specs.declared.Made.the-variants as made
 use Rattle.schedule_lines.specs.declared.Printed.{Printed}

@@ -1,28 +1,24 @@
 -- A line that is put into the buffer, and what is against it.
 use Prim.Native.Nat.{ℕ, _+_, _≤_, _<_}
 use mathlib.Core.Path.{_≡_, refl, sym, _∙_, ap}
-use mathlib.Core.Bool.{Bool, true, false}
 use mathlib.Core.List.{List, [], _∷_}
 use mathlib.Core.Option.{Option, some, none}
 use borrow.Author.Tests.{eq-eqb, ne-eqb, le-leb, lt-leb}
-use lib.Dec.{leb}
 use lib.ListN.{length}
-use Rattle.basis.specs.Words.{unless}
 use Rattle.rules.specs.Numbers.{Pairs, mostBytes}
-use Rattle.rules.specs.Refusals.{Refused, refusedAs, Ground, malformed, shortBuffer, refusal}
+use Rattle.rules.specs.Refusals.{Refused, refusedAs, shortBuffer, refusal}
 use Rattle.rules.specs.MeterFile.{overLimit}
 use Rattle.rules.specs.declared.Refusal.{Refusal}
 use Rattle.rules.specs.declared.Refusal.the-variants.{BadRecord}
 use Rattle.rules.specs.declared.Table.{Table}
 use Rattle.laws.proofs.Refusals.{nothing-last, line-first, size-first, file-alone, refused-first, refused-then}
-use Rattle.ranges.specs.Outcome.{Outcome, refused, gives}
-use Rattle.ranges.specs.Verdicts.{verdictAs}
+use Rattle.ranges.specs.Outcome.{refused, gives}
 use Rattle.ranges.specs.declared.Verdict.{Verdict}
 use Rattle.ranges.specs.declared.Verdict.the-variants as verdict
 use Rattle.ranges.proofs.Verdicts.{verdict-refused, refused-early, left-to-others}
 use Rattle.ranges.proofs.Outcomes.{refused-as, given-as, never-both}
 use Rattle.scheduler.specs.States.{pairs}
-use Rattle.scheduler.specs.Promises.{table, state, JudgedIs}
+use Rattle.scheduler.specs.Promises.{state, JudgedIs}
 use Rattle.scheduler.specs.declared.State.{State}
 use Rattle.lines.specs.Lines.{bytesOf, writtenAs}
 use Rattle.lines.specs.Promises.{Writing, wroteAs, onto, writing, WriteLineIs}
@@ -30,7 +26,7 @@ use Rattle.lines.specs.declared.Line.{Line}
 use Rattle.lines.specs.declared.Written.{Written}
 use Rattle.lines.specs.declared.Written.the-variants as written
 use Rattle.schedule_lines.specs.Coming.{Coming, countedOn, plain}
-use Rattle.schedule_lines.specs.Promises.{OneLine, Printing, printedAs, printing, against, OneLineIs, SizeJudgedIs, PlainIs, PutIs}
+use Rattle.schedule_lines.specs.Promises.{printedAs, printing, SizeJudgedIs, PlainIs, PutIs}
 use Rattle.schedule_lines.specs.declared.Next.{Next}
 use Rattle.schedule_lines.specs.declared.Made.the-variants as made
 use Rattle.schedule_lines.specs.declared.Printed.{Printed}

@@ -114,14 +114,7 @@ fn refused_event(state: State, ticks: u64, why: Refusal, room: usize) -> Printed
 }
 
 // The line of the record at an offset. Refusals 8, 1, 3, 7 and 6.
-fn event_line(
-    file: &[u8],
-    t: Table,
-    state: State,
-    at: usize,
-    ticks: u64,
-    buf: &mut [u8],
-) -> Printed
+fn event_line(file: &[u8], t: Table, state: State, at: usize, ticks: u64, buf: &mut [u8]) -> Printed
     ensures { λ r. ⌜ EventIs t state (now (file .entry)) at ticks (now (buf .entry)) r (now (buf .exit)) ⌝ }
 {
     let replayed = replay(state, t, file, at);
@@ -135,7 +128,13 @@ fn event_line(
         }
         Event::Released(index) => {
             let then = Next::Line(Cursor::Record(next, ticks));
-            put(Line::Release(ticks, index as usize), state, after, then, buf)
+            put(
+                Line::Release(ticks, index as usize),
+                state,
+                after,
+                then,
+                buf,
+            )
         }
         Event::Refused(r) => refused_event(state, ticks, r, buf.len()),
     }

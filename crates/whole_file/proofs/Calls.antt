@@ -2,12 +2,9 @@
 use Prim.Native.Nat.{ℕ}
 use mathlib.Core.Path.{_≡_, refl, sym, _∙_, ap}
 use mathlib.Core.List.{List, [], _∷_}
-use mathlib.Core.Option.{Option, some, none}
-use lib.ListN.{length}
-use Rattle.rules.specs.Numbers.{firstBadTask}
-use Rattle.rules.specs.Admission.{firstUnadmitted}
-use Rattle.rules.specs.Refusals.{Refused, refusedAs, Ground, malformed, badTable, badTasks, notAdmitted, refusal}
-use Rattle.rules.specs.MeterFile.{meterKinds, reading, tableOf, tasksOf, eventsIn, beginning, refusalOf}
+use mathlib.Core.Option.{Option, some}
+use Rattle.rules.specs.Refusals.{Refused, refusedAs, badTable, badTasks, notAdmitted, refusal}
+use Rattle.rules.specs.MeterFile.{refusalOf}
 use Rattle.rules.specs.declared.Refusal.{Refusal}
 use Rattle.rules.specs.declared.Refusal.the-variants.{NotAdmitted}
 use Rattle.rules.specs.declared.Table.{Table}
@@ -26,7 +23,7 @@ use Rattle.standing.specs.Promises.{AdmissionIs}
 use Rattle.standing.specs.declared.Test.{Test}
 use Rattle.standing.specs.declared.Test.the-variants as test
 use Rattle.whole_file.specs.Inner.{noTable, noTasks, empty, LoadIs, JudgeHeldIs}
-use Rattle.whole_file.specs.Promises.{Judged, judgedAs, refusedFile, judging, JudgeFileIs}
+use Rattle.whole_file.specs.Promises.{judgedAs, refusedFile, judging, JudgeFileIs}
 use Rattle.whole_file.specs.declared.Held.{Held}
 use Rattle.whole_file.specs.declared.MeterFile.{MeterFile}
 

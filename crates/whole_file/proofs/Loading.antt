@@ -1,23 +1,22 @@
 -- The pass over all records: what those read so far hold.
 use Prim.Native.Nat.{ℕ, zero, suc, _+_, _-_, _≤_, _<_}
-use mathlib.Core.Path.{_≡_, refl, sym, _∙_, ap, ap₂, subst}
-use mathlib.Core.Bool.{Bool, true, false, cond}
+use mathlib.Core.Path.{_≡_, refl, sym, _∙_, ap, subst}
+use mathlib.Core.Bool.{Bool, true, false}
 use mathlib.Core.List.{List, [], _∷_, _++_, append-assoc, append-nil}
-use mathlib.Core.Logic.{_⊎_, inl, inr, ⊎-elim}
+use mathlib.Core.Logic.{_⊎_, ⊎-elim}
 use mathlib.Core.Option.{Option, some, none}
-use native.Mathlib.Nat.{le-refl, le-trans, lt-of-le-of-lt, lt-of-lt-of-le, zero-add, lt-irrefl, le-antisymm}
+use native.Mathlib.Nat.{le-refl, lt-of-le-of-lt, zero-add, lt-irrefl, le-antisymm}
 use native.Mathlib.Omega.{arith}
-use borrow.Author.Tests.{eqb-true, ne-eqb}
-use lib.Dec.{eqb}
+use borrow.Author.Tests.{eqb-true}
 use lib.ListN.{length, length-append}
 use Rattle.basis.specs.Words.{padded}
 use Rattle.rules.specs.Numbers.{mostBytes}
-use Rattle.rules.specs.Refusals.{Refused, refusedAs, malformed, refusal}
-use Rattle.rules.specs.MeterFile.{two, lengthAt, kindAt, nextAt, payloadAt, meterKinds, Form, form, isRecord, malformedAt, Record, Reading, andThen, readFrom, reading, ofKind, column, tableFrom, tasksFrom, isEvent, eventsOf, beginning, tableOf, tasksOf, eventsIn}
+use Rattle.rules.specs.Refusals.{refusedAs, malformed, refusal}
+use Rattle.rules.specs.MeterFile.{two, lengthAt, kindAt, nextAt, meterKinds, form, isRecord, malformedAt, Record, Reading, andThen, readFrom, reading, ofKind, tableFrom, tasksFrom, isEvent, eventsOf, beginning, tableOf, tasksOf, eventsIn}
 use Rattle.rules.specs.declared.Refusal.{Refusal}
 use Rattle.rules.specs.declared.Table.{Table}
 use Rattle.rules.specs.declared.Tasks.{Tasks}
-use Rattle.laws.proofs.Tests.{below-or-not, none-is-some, some-is-none}
+use Rattle.laws.proofs.Tests.{below-or-not, none-is-some}
 use Rattle.laws.proofs.Refusals.{file-alone}
 use Rattle.laws.proofs.MeterFile.{over-limit, no-record, a-record, payload-is, Whole, record-whole, Kind, partition, task, word, release, known-kind}
 use Rattle.laws.proofs.Records.{read-on, read-stops, read-ends, reading-small, reading-large, of-kind-this, of-kind-other, of-kind-few, column-next, field-at, event-kind, no-events-more, events-begin}

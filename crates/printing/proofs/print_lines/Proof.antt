@@ -3,13 +3,13 @@ use mathlib.Core.Path.{ap, _∙_}
 use Rattle.printing.proofs.Schedule.{run-begins, within}
 use native.Mathlib.Omega.{arith}
 use Prim.Native.Nat.{_≤_}
-use mathlib.Core.Path.{_≡_, refl, sym}
+use mathlib.Core.Path.{sym}
 use lib.ListN.{length}
 use native.Mathlib.Nat.{le-refl}
 use lib.Seq.{length-take-le}
 use Rattle.scheduler.specs.States.{pairs}
 use Rattle.schedule_lines.specs.declared.Cursor.the-variants.{Header}
-use Rattle.outputs.proofs.Schedule.{toWrite, left, little-to-write}
+use Rattle.outputs.proofs.Schedule.{toWrite, left}
 use Rattle.printing.proofs.Schedule.{Running, counted, refused-counted}
 use borrow.Author.Needs.{needs}
 use Rattle.printing.proofs.print_lines.Statement.{statement}
