@@ -11,7 +11,6 @@ use borrow.Author.Tests.{le-leb, eqb-true, eqb-false}
 use lib.Dec.{eqb}
 use lib.ListN.{length, take, length-append}
 use Rattle.basis.specs.Words.{_!_}
-use Rattle.rules.specs.Numbers.{TableInRange, TasksInRange}
 use Rattle.rules.specs.TaskResponse.{rankOf, responseOfTask}
 use Rattle.rules.specs.Refusals.{Refused, ground, refusal}
 use Rattle.rules.specs.MeterFile.{tableOf, tasksOf}
@@ -33,6 +32,7 @@ use Rattle.response_lines.specs.Promises.{OneLine, Printing, madeAs, printedAs,
 use Rattle.response_lines.specs.declared.Cursor.{Cursor}
 use Rattle.response_lines.specs.declared.Cursor.the-variants as cursor
 use Rattle.response_lines.specs.declared.Next.the-variants as next
+use Rattle.outputs.specs.ResponseMoments.{rowsLeft, rowsFrom, rowsToWrite, RowAt}
 use Rattle.outputs.specs.ResponseCalls.{Call, Lines, goes-on, ends, stops, ResponsePrinted}
 use Rattle.outputs.specs.ResponseCalls as calls
 use Rattle.outputs.proofs.LineInBuffer.{has-room, taken, refused-written}
@@ -43,46 +43,21 @@ three-none : (x y z : Option ℕ) → x ≡ none → y ≡ none → z ≡ none �
 unfolding refusal
 three-none x y z a b c = rw (a, b, c)
 
--- the task whose row comes at a cursor, or after it
-abbrev pub place : Cursor → ℕ
-place cursor.Header = 0
-place (cursor.Task i) = i
-
--- how far a cursor is from the end
-pub rowsLeft : Tasks → Cursor → ℕ
-rowsLeft k cursor.Header = suc (suc (k .count))
-rowsLeft k (cursor.Task i) = suc (k .count) - i
-
 module _ (t : Table) (k : Tasks) where
-  -- the rows of the n tasks from i on, and the end
-  rowsFrom : ℕ → ℕ → List ℕ
-  rowsFrom i zero = endLine (k .count)
-  rowsFrom i (suc n) = rowOf t k i ++ rowsFrom (i + 1) n
-
-  -- what is still to be written at a cursor, and what holds there
-  pub rowsToWrite : Cursor → List ℕ
-  rowsToWrite cursor.Header = responseHeader ++ rowsFrom 0 (k .count)
-  rowsToWrite (cursor.Task i) = rowsFrom i (k .count - i)
-
-  pub record RowAt (c : Cursor) : Type 0 where
-    pub table : TableInRange (t .count) (t .period) (t .budget) (t .phase)
-    pub tasks : TasksInRange (t .count) (k .count) (k .partition) (k .gap) (k .cost)
-    pub inside : place c ≤ k .count
-
   -- ---- the rows from below and from above
-  rows-meet : (n i : ℕ) → rowsOf t k i ++ rowsFrom i n ≡ rowsOf t k (i + n) ++ endLine (k .count)
+  rows-meet : (n i : ℕ) → rowsOf t k i ++ rowsFrom t k i n ≡ rowsOf t k (i + n) ++ endLine (k .count)
   unfolding rowsFrom rowsOf
   rows-meet zero i = ap (λ (j : ℕ). rowsOf t k j ++ endLine (k .count)) (sym (add-zero i))
   rows-meet (suc n) i =
-      sym (append-assoc (rowsOf t k i) (rowOf t k i) (rowsFrom (i + 1) n))
-      ∙ ap (λ (j : ℕ). rowsOf t k j ++ rowsFrom (i + 1) n) (sym (add-one i))
+      sym (append-assoc (rowsOf t k i) (rowOf t k i) (rowsFrom t k (i + 1) n))
+      ∙ ap (λ (j : ℕ). rowsOf t k j ++ rowsFrom t k (i + 1) n) (sym (add-one i))
       ∙ rows-meet n (i + 1)
       ∙ ap (λ (j : ℕ). rowsOf t k j ++ endLine (k .count)) counted
     where
       counted : i + 1 + n ≡ i + suc n
       counted = omega arith
 
-  all-from-header : rowsToWrite cursor.Header ≡ responseHeader ++ rowsOf t k (k .count) ++ endLine (k .count)
+  all-from-header : rowsToWrite t k cursor.Header ≡ responseHeader ++ rowsOf t k (k .count) ++ endLine (k .count)
   unfolding rowsToWrite rowsOf
   all-from-header =
       ap (λ (rows : List ℕ). responseHeader ++ rows) (rows-meet (k .count) 0 ∙ ap (λ (j : ℕ). rowsOf t k j ++ endLine (k .count)) (zero-add (k .count)))
@@ -102,12 +77,12 @@ module _ (t : Table) (k : Tasks) where
     -- what a call does: a line and more, or the last line
     pub data RowWent : Type 0 where
       on : (bytes : List ℕ) (then : Cursor) → length bytes ≤ longestLine → rowsLeft k then < rowsLeft k c → madeAs (call .answer) ≡ gives (record { length = length bytes; next = next.Line then }) → call .last ≡ onto bytes (call .buffer)
-          → rowsToWrite c ≡ bytes ++ rowsToWrite then → RowAt then → RowWent
+          → rowsToWrite t k c ≡ bytes ++ rowsToWrite t k then → RowAt t k then → RowWent
       over : (bytes : List ℕ) → length bytes ≤ longestLine → madeAs (call .answer) ≡ gives (record { length = length bytes; next = next.Nothing }) → call .last ≡ onto bytes (call .buffer)
-          → rowsToWrite c ≡ bytes → RowWent
+          → rowsToWrite t k c ≡ bytes → RowWent
 
     -- one line, where what comes is known and nothing is against it
-    one : (d : Coming) → coming t k c ≡ d → d .fault ≡ none → length (d .line) ≤ longestLine → RowAt c
+    one : (d : Coming) → coming t k c ≡ d → d .fault ≡ none → length (d .line) ≤ longestLine → RowAt t k c
         → printedAs (call .answer) (call .last) ≡ record { says = gives (record { length = length (d .line); next = d .next }); buffer = onto (d .line) (call .buffer) }
     unfolding printing
     one d same fault short now =
@@ -115,18 +90,18 @@ module _ (t : Table) (k : Tasks) where
         ∙ ap (λ (o : Option Refused). printing o d (call .buffer)) (three-none _ _ _ (now .table) fault (has-room (d .line) (call .buffer) short (call .room)))
 
   -- the header
-  went-header : (call : Call t k cursor.Header) → RowAt cursor.Header → RowWent cursor.Header call
+  went-header : (call : Call t k cursor.Header) → RowAt t k cursor.Header → RowWent cursor.Header call
   unfolding coming rowsToWrite rowsLeft
   went-header call now =
       on responseHeader (cursor.Task 0) (omega arith) (omega arith) (ap (λ (x : Printing). x .says) made) (ap (λ (x : Printing). x .buffer) made)
-      (ap (λ (n : ℕ). responseHeader ++ rowsFrom 0 n) {x = k .count} {y = k .count - 0} (omega arith))
+      (ap (λ (n : ℕ). responseHeader ++ rowsFrom t k 0 n) {x = k .count} {y = k .count - 0} (omega arith))
       (record { table = now .table; tasks = now .tasks; inside = omega arith })
     where
       made : printedAs (call .answer) (call .last) ≡ record { says = gives (record { length = length responseHeader; next = next.Line (cursor.Task 0) }); buffer = onto responseHeader (call .buffer) }
       made = one cursor.Header call (plain t k responseHeader (next.Line (cursor.Task 0))) refl (now .tasks) (omega arith) now
 
   -- a row, or the end
-  went-task : (i : ℕ) (call : Call t k (cursor.Task i)) → RowAt (cursor.Task i) → RowWent (cursor.Task i) call
+  went-task : (i : ℕ) (call : Call t k (cursor.Task i)) → RowAt t k (cursor.Task i) → RowWent (cursor.Task i) call
   unfolding coming rowsToWrite rowsLeft rowsFrom
   went-task i call now = go (eqb i (k .count)) refl
     where
@@ -138,27 +113,27 @@ module _ (t : Table) (k : Tasks) where
           let made = one (cursor.Task i) call (record { fault = badPlace t k i; line = endLine (k .count); next = next.Nothing }) (rw e) there (end-short (k .count)) now in
           let last : i ≡ k .count = eqb-true i (k .count) e in
           over (endLine (k .count)) (end-short (k .count)) (ap (λ (x : Printing). x .says) made) (ap (λ (x : Printing). x .buffer) made)
-          (ap (rowsFrom i) {x = k .count - i} {y = 0} (omega (arith, last)))
+          (ap (rowsFrom t k i) {x = k .count - i} {y = 0} (omega (arith, last)))
       go false e =
           let made = one (cursor.Task i) call (record { fault = badPlace t k i; line = rowOf t k i; next = next.Line (cursor.Task (i + 1)) }) (rw e) there (row-short i) now in
           let least : i ≤ k .count = now .inside in
           let other : i ≡ k .count → ⊥ = eqb-false i (k .count) e in
           let below : i < k .count = omega (arith, least, other) in
           on (rowOf t k i) (cursor.Task (i + 1)) (row-short i) (omega (arith, below)) (ap (λ (x : Printing). x .says) made) (ap (λ (x : Printing). x .buffer) made)
-          (ap (rowsFrom i) {x = k .count - i} {y = suc (k .count - (i + 1))} (omega (arith, below)))
+          (ap (rowsFrom t k i) {x = k .count - i} {y = suc (k .count - (i + 1))} (omega (arith, below)))
           (record { table = now .table; tasks = now .tasks; inside = omega (arith, below) })
 
-  pub row-went : (c : Cursor) (call : Call t k c) → RowAt c → RowWent c call
+  pub row-went : (c : Cursor) (call : Call t k c) → RowAt t k c → RowWent c call
   row-went cursor.Header call now = went-header call now
   row-went (cursor.Task i) call now = went-task i call now
 
   -- ---- the calls from a cursor on write what is still to be written there
-  joined : {c : Cursor} {output : List ℕ} → Lines t k c output → RowAt c → output ≡ rowsToWrite c
-  joined (goes-on {c} {rest} call n then made-is later) now = finish (row-went c call now) (λ (a : RowAt then). joined later a)
+  joined : {c : Cursor} {output : List ℕ} → Lines t k c output → RowAt t k c → output ≡ rowsToWrite t k c
+  joined (goes-on {c} {rest} call n then made-is later) now = finish (row-went c call now) (λ (a : RowAt t k then). joined later a)
     where
-      finish : RowWent c call → (RowAt then → rest ≡ rowsToWrite then) → take n (call .last) ++ rest ≡ rowsToWrite c
+      finish : RowWent c call → (RowAt t k then → rest ≡ rowsToWrite t k then) → take n (call .last) ++ rest ≡ rowsToWrite t k c
       finish (on bytes further m l e f g h) ih =
-          (λ i. taken n bytes (call .buffer) (call .last) (ap (λ (x : OneLine). x .length) same) f i ++ (ih (subst RowAt (sym then-is) h) ∙ ap rowsToWrite then-is) i)
+          (λ i. taken n bytes (call .buffer) (call .last) (ap (λ (x : OneLine). x .length) same) f i ++ (ih (subst (RowAt t k) (sym then-is) h) ∙ ap (rowsToWrite t k) then-is) i)
           ∙ sym g
         where
           same : _≡_ {A = OneLine} (record { length = n; next = next.Line then }) (record { length = length bytes; next = next.Line further })
@@ -169,30 +144,30 @@ module _ (t : Table) (k : Tasks) where
       finish (over bytes m e f g) ih = let differ : next.Line then ≡ next.Nothing = ap (λ (x : OneLine). x .next) (given-as (sym (ap madeAs made-is) ∙ e)) in cc
   joined (ends {c} call n made-is) now = finish (row-went c call now)
     where
-      finish : RowWent c call → take n (call .last) ≡ rowsToWrite c
+      finish : RowWent c call → take n (call .last) ≡ rowsToWrite t k c
       finish (on bytes further m l e f g h) = let differ : next.Nothing ≡ next.Line further = ap (λ (x : OneLine). x .next) (given-as (sym (ap madeAs made-is) ∙ e)) in cc
       finish (over bytes m e f g) = taken n bytes (call .buffer) (call .last) (ap (λ (x : OneLine). x .length) (given-as (sym (ap madeAs made-is) ∙ e))) f ∙ sym g
   joined (stops {c} {output} call q made-is written) now = finish (row-went c call now)
     where
-      finish : RowWent c call → output ≡ rowsToWrite c
+      finish : RowWent c call → output ≡ rowsToWrite t k c
       finish (on bytes further m l e f g h) = never-both (sym e ∙ ap madeAs made-is)
       finish (over bytes m e f g) = never-both (sym e ∙ ap madeAs made-is)
 
   -- ---- how much there can be to write
-  rows-short : (n i : ℕ) → length (rowsFrom i n) ≤ 64 * (n + 1)
+  rows-short : (n i : ℕ) → length (rowsFrom t k i n) ≤ 64 * (n + 1)
   unfolding rowsFrom
   rows-short zero i = end-short (k .count)
   rows-short (suc n) i =
-      let all = length-append (rowOf t k i) (rowsFrom (i + 1) n) in
+      let all = length-append (rowOf t k i) (rowsFrom t k (i + 1) n) in
       let row = row-short i in
       let rest = rows-short n (i + 1) in
       omega (arith, all, row, rest)
 
-  pub little-rows : (c : Cursor) → RowAt c → length (rowsToWrite c) ≤ 4224
+  pub little-rows : (c : Cursor) → RowAt t k c → length (rowsToWrite t k c) ≤ 4224
   unfolding rowsToWrite
   little-rows cursor.Header now =
       let few = tasks-good (t .count) (k .count) (k .partition) (k .gap) (k .cost) (now .tasks) .not-many in
-      let all = length-append responseHeader (rowsFrom 0 (k .count)) in
+      let all = length-append responseHeader (rowsFrom t k 0 (k .count)) in
       let short = rows-short (k .count) 0 in
       omega (arith, few, all, short)
   little-rows (cursor.Task i) now =

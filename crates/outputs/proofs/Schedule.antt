@@ -41,6 +41,7 @@ use Rattle.schedule_lines.specs.declared.Cursor.{Cursor}
 use Rattle.schedule_lines.specs.declared.Cursor.the-variants as cursor
 use Rattle.schedule_lines.specs.declared.Next.{Next}
 use Rattle.schedule_lines.specs.declared.Next.the-variants as next
+use Rattle.outputs.specs.ScheduleMoments.{from, Moment, still, toWrite, At, left}
 use Rattle.outputs.specs.ScheduleCalls.{Call, Lines, goes-on, ends, stops, SchedulePrinted}
 use Rattle.outputs.specs.ScheduleCalls as calls
 use Rattle.outputs.proofs.LineInBuffer.{has-room, taken, refused-written}
@@ -58,26 +59,9 @@ event-there k l = go k (known-kind k l)
     go j release h = refl
 
 module _ (file : List ℕ) (t : Table) where
-  -- the events from an offset on
-  pub from : ℕ → Reading
-  from at = readFrom meterKinds file (length file) 3 at
-
-  -- a moment of a run: the state is in range, and all records from the offset on are sound
-  pub record Moment (s : Pairs) (at ticks : ℕ) : Type 0 where
-    pub small : length file ≤ mostBytes
-    pub table : TableInRange (t .count) (t .period) (t .budget) (t .phase)
-    pub state : StateInRange (t .count) (t .period) (t .budget) (s .b) (s .o)
-    pub inside : at ≤ length file
-    pub sound : from at .fault ≡ none
-    pub few : ticks ≤ at
-
-  -- what is still to be written
-  pub still : Pairs → ℕ → ℕ → List ℕ
-  still s at ticks = scheduleFrom t file s ticks (from at .records)
-
-  module _ (s : Pairs) (at ticks : ℕ) (now : Moment s at ticks) where
+  module _ (s : Pairs) (at ticks : ℕ) (now : Moment file t s at ticks) where
     -- at the end
-    pub still-ends : at ≡ length file → still s at ticks ≡ endLine ticks
+    pub still-ends : at ≡ length file → still file t s at ticks ≡ endLine ticks
     unfolding still from scheduleFrom
     still-ends e = ap (λ (x : Reading). scheduleFrom t file s ticks (x .records)) (read-ends meterKinds file (length file) 3 at (rw e (le-refl (length file))))
 
@@ -101,7 +85,7 @@ module _ (file : List ℕ) (t : Table) where
       far = next-further meterKinds 3 file at is-record .0
 
       -- the record, and the events after it
-      from-on : from at ≡ andThen (record { kind = kindAt file at; at = at }) (from (nextAt file at))
+      from-on : from file t at ≡ andThen (record { kind = kindAt file at; at = at }) (from file t (nextAt file at))
       unfolding from form
       from-on =
           rounds-same meterKinds file (length file) (suc (length file)) 3 at (omega arith) (omega arith)
@@ -114,11 +98,11 @@ module _ (file : List ℕ) (t : Table) where
               whole : Whole meterKinds 3 file at
               whole = record-whole meterKinds 3 file at is-record
 
-      pub still-goes-on : still s at ticks ≡ unlessInactive (inactive t s event) (eventLine ticks event ++ still (after t s event) (nextAt file at) (ticksAfter ticks event))
+      pub still-goes-on : still file t s at ticks ≡ unlessInactive (inactive t s event) (eventLine ticks event ++ still file t (after t s event) (nextAt file at) (ticksAfter ticks event))
       unfolding still scheduleFrom
       still-goes-on = ap (λ (x : Reading). scheduleFrom t file s ticks (x .records)) from-on
 
-      pub next-moment : Moment (after t s event) (nextAt file at) (ticksAfter ticks event)
+      pub next-moment : Moment file t (after t s event) (nextAt file at) (ticksAfter ticks event)
       next-moment =
           record {
             small = now .small;
@@ -189,28 +173,14 @@ line-is-nothing {A} {c} e = absurd (differ e)
     differ p = let z : _≡_ {A = ℕ} 0 1 = ap named p in omega arith
 
 module _ (file : List ℕ) (t : Table) where
-  -- what is still to be written at a cursor, and what holds there
-  unfoldable pub toWrite : Pairs → Cursor → List ℕ
-  toWrite s (cursor.Header events) = scheduleHeader ++ still file t s events 0
-  toWrite s (cursor.Record at ticks) = still file t s at ticks
-
-  unfoldable pub At : Pairs → Cursor → Type 0
-  At s (cursor.Header events) = Moment file t s events 0
-  At s (cursor.Record at ticks) = Moment file t s at ticks
-
-  -- how far a cursor is from the end
-  pub left : Cursor → ℕ
-  left (cursor.Header events) = suc (suc (length file))
-  left (cursor.Record at ticks) = suc (length file) - at
-
   module _ (s : State) (c : Cursor) (call : Call file t s c) where
     -- what a call does: a line and more, the last line, or refusal 6
     pub data Went : Type 0 where
-      on : (bytes : List ℕ) (then : Cursor) → length bytes ≤ longestLine → left then < left c → madeAs (call .answer .made) ≡ gives (record { length = length bytes; next = next.Line then }) → call .last ≡ onto bytes (call .buffer)
-          → toWrite (pairs s) c ≡ bytes ++ toWrite (pairs (call .answer .state)) then → At (pairs (call .answer .state)) then → Went
+      on : (bytes : List ℕ) (then : Cursor) → length bytes ≤ longestLine → left file t then < left file t c → madeAs (call .answer .made) ≡ gives (record { length = length bytes; next = next.Line then }) → call .last ≡ onto bytes (call .buffer)
+          → toWrite file t (pairs s) c ≡ bytes ++ toWrite file t (pairs (call .answer .state)) then → At file t (pairs (call .answer .state)) then → Went
       over : (bytes : List ℕ) → length bytes ≤ longestLine → madeAs (call .answer .made) ≡ gives (record { length = length bytes; next = next.Nothing }) → call .last ≡ onto bytes (call .buffer)
-          → toWrite (pairs s) c ≡ bytes → Went
-      out : (i : ℕ) → madeAs (call .answer .made) ≡ refused (record { number = 6; second = i }) → toWrite (pairs s) c ≡ refusedLine (record { number = 6; second = i }) → Went
+          → toWrite file t (pairs s) c ≡ bytes → Went
+      out : (i : ℕ) → madeAs (call .answer .made) ≡ refused (record { number = 6; second = i }) → toWrite file t (pairs s) c ≡ refusedLine (record { number = 6; second = i }) → Went
 
     -- one line, where what comes is known and nothing but 6 is against it
     module _ (d : Coming) (same : coming file t (pairs s) c ≡ d) (fault : d .fault ≡ none) (short : length (d .line) ≤ longestLine)
@@ -293,18 +263,18 @@ module _ (file : List ℕ) (t : Table) where
               let made = none-made s (cursor.Record at ticks) call (eventComing file t (pairs s) at ticks) here sound (event-short ticks (eventAt t (pairs s) file (kindAt file at) at)) (now .table) (now .state) i f in
               out i (ap (λ (x : Printing). x .says) made) (goes ∙ unless-some _ i f)
 
-  pub went : (s : State) (c : Cursor) (call : Call file t s c) → At (pairs s) c → Went s c call
+  pub went : (s : State) (c : Cursor) (call : Call file t s c) → At file t (pairs s) c → Went s c call
   unfolding At
   went s (cursor.Header events) call now = went-header s events call now
   went s (cursor.Record at ticks) call now = went-record s at ticks call now
 
   -- the calls from a cursor on write what is still to be written there
-  joined : {s : State} {c : Cursor} {output : List ℕ} → Lines file t s c output → At (pairs s) c → output ≡ toWrite (pairs s) c
-  joined (goes-on {s} {c} {rest} call n then made-is later) now = finish (went s c call now) (λ (a : At (pairs (call .answer .state)) then). joined later a)
+  joined : {s : State} {c : Cursor} {output : List ℕ} → Lines file t s c output → At file t (pairs s) c → output ≡ toWrite file t (pairs s) c
+  joined (goes-on {s} {c} {rest} call n then made-is later) now = finish (went s c call now) (λ (a : At file t (pairs (call .answer .state)) then). joined later a)
     where
-      finish : Went s c call → (At (pairs (call .answer .state)) then → rest ≡ toWrite (pairs (call .answer .state)) then) → take n (call .last) ++ rest ≡ toWrite (pairs s) c
+      finish : Went s c call → (At file t (pairs (call .answer .state)) then → rest ≡ toWrite file t (pairs (call .answer .state)) then) → take n (call .last) ++ rest ≡ toWrite file t (pairs s) c
       finish (on bytes further m l e f g h) ih =
-          (λ i. taken n bytes (call .buffer) (call .last) (ap (λ (x : OneLine). x .length) same) f i ++ (ih (subst (At (pairs (call .answer .state))) (sym then-is) h) ∙ ap (toWrite (pairs (call .answer .state))) then-is) i)
+          (λ i. taken n bytes (call .buffer) (call .last) (ap (λ (x : OneLine). x .length) same) f i ++ (ih (subst (At file t (pairs (call .answer .state))) (sym then-is) h) ∙ ap (toWrite file t (pairs (call .answer .state))) then-is) i)
           ∙ sym g
         where
           same : _≡_ {A = OneLine} (record { length = n; next = next.Line then }) (record { length = length bytes; next = next.Line further })
@@ -316,13 +286,13 @@ module _ (file : List ℕ) (t : Table) where
       finish (out i e g) ih = never-both (sym (ap madeAs made-is) ∙ e)
   joined (ends {s} {c} call n made-is) now = finish (went s c call now)
     where
-      finish : Went s c call → take n (call .last) ≡ toWrite (pairs s) c
+      finish : Went s c call → take n (call .last) ≡ toWrite file t (pairs s) c
       finish (on bytes further m l e f g h) = line-is-nothing (sym (ap (λ (x : OneLine). x .next) (given-as (sym (ap madeAs made-is) ∙ e))))
       finish (over bytes m e f g) = taken n bytes (call .buffer) (call .last) (ap (λ (x : OneLine). x .length) (given-as (sym (ap madeAs made-is) ∙ e))) f ∙ sym g
       finish (out i e g) = never-both (sym (ap madeAs made-is) ∙ e)
   joined (stops {s} {c} {output} call q made-is written) now = finish (went s c call now)
     where
-      finish : Went s c call → output ≡ toWrite (pairs s) c
+      finish : Went s c call → output ≡ toWrite file t (pairs s) c
       finish (on bytes further m l e f g h) = never-both (sym e ∙ ap madeAs made-is)
       finish (over bytes m e f g) = never-both (sym e ∙ ap madeAs made-is)
       finish (out i e g) = refused-written q output written ∙ ap refusedLine (refused-as (sym (ap madeAs made-is) ∙ e)) ∙ sym g

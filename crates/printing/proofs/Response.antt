@@ -29,7 +29,8 @@ use Rattle.whole_file.specs.declared.MeterFile.{MeterFile}
 use Rattle.printing.specs.Promises.{PrintResponseIs}
 use Rattle.outputs.proofs.JudgedFile.{output-refused, output-good}
 use Rattle.outputs.specs.ResponseCalls.{Call}
-use Rattle.outputs.proofs.Response.{RowAt, rowsToWrite, rowsLeft, RowWent, on, over, row-went, little-rows, all-rows}
+use Rattle.outputs.specs.ResponseMoments.{rowsLeft, rowsToWrite, RowAt}
+use Rattle.outputs.proofs.Response.{RowWent, on, over, row-went, little-rows, all-rows}
 
 -- a line that goes on isn't the last
 after-line : Next → Option Cursor

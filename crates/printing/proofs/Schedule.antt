@@ -36,7 +36,8 @@ use Rattle.whole_file.specs.declared.MeterFile.{MeterFile}
 use Rattle.printing.specs.Promises.{PrintScheduleIs}
 use Rattle.outputs.proofs.JudgedFile.{output-refused, output-good}
 use Rattle.outputs.specs.ScheduleCalls.{Call}
-use Rattle.outputs.proofs.Schedule.{Moment, At, toWrite, left, Went, on, over, out, went, little-to-write, line-is-nothing, all-to-write}
+use Rattle.outputs.specs.ScheduleMoments.{Moment, toWrite, At, left}
+use Rattle.outputs.proofs.Schedule.{Went, on, over, out, went, little-to-write, line-is-nothing, all-to-write}
 
 module _ (file : List ℕ) (t : Table) (total : ℕ) where
   pub record Running (state : State) (c : Cursor) (used sent : ℕ) (buffer : List ℕ) : Type 0 where

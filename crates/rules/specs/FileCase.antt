@@ -58,8 +58,9 @@ abbrev times : ℕ → List ℕ → List ℕ
 times zero bytes = []
 times (suc n) bytes = bytes ++ times n bytes
 
-abbrev pub files : List Row
-files =
+-- records of 01's file, at an offset and after a kind
+abbrev pub records : List Row
+records =
     -- the payloads of the first and the third record of 01's file; after a word the first would be out of order, and then has none
     (payload meterKinds 0 fileCase 0 is 0x04 ∷ 0x00 ∷ 0x01 ∷ 0x00 ∷ 0x00 ∷ 0x00 ∷ [])
     ∷ (payload meterKinds 1 fileCase 20 is 0x20 ∷ 0x4e ∷ 0x00 ∷ 0x00 ∷ [])
@@ -70,10 +71,17 @@ files =
     ∷ (answer (malformedAt (1 ∷ []) 1 fileCase 20) is 20 ∷ [])
     ∷ (answer (malformedAt meterKinds 3 fileCase 68) is 68 ∷ [])
     ∷ (answer (malformedAt meterKinds 3 fileCase 69) is 69 ∷ [])
-    -- no record: no partitions; no event; no task
-    ∷ (scheduleOutput [] is ascii "refused 1 at 0\n")
-    ∷ (scheduleOutput one is ascii "tick pick\nend 0\n")
-    ∷ (responseOutput one is ascii "partition task response\nend 0\n")
+    ∷ []
+
+pub records-hold : Hold records
+unfolding has form isRecord malformedAt payload
+records-hold = refl
+
+-- files that are refused
+abbrev pub refusedFiles : List Row
+refusedFiles =
+    -- no record: no partitions
+    (scheduleOutput [] is ascii "refused 1 at 0\n")
     -- a record cut in its length, in its kind, in its payload
     ∷ (scheduleOutput (0x08 ∷ []) is ascii "refused 8 at 0\n")
     ∷ (scheduleOutput (one ++ 0x06 ∷ 0x00 ∷ 0x03 ∷ []) is ascii "refused 8 at 10\n")
@@ -91,15 +99,34 @@ files =
     ∷ (scheduleOutput (one ++ partition 4 5 0) is ascii "refused 1 at 1\n")
     ∷ (scheduleOutput (one ++ partition 4 5 0 ++ 0x00 ∷ []) is ascii "refused 8 at 20\n")
     ∷ (scheduleOutput (one ++ partition 4 5 0 ++ task 2 9 1) is ascii "refused 1 at 1\n")
-    -- seventeen partitions, whatever their fields; 65 tasks
-    ∷ (scheduleOutput (times 17 (partition 4 5 0)) is ascii "refused 1 at 16\n")
-    ∷ (responseOutput (one ++ times 65 (task 1 9 1)) is ascii "refused 9 at 64\n")
     -- a task of a partition that isn't there, also where the table isn't admitted
     ∷ (responseOutput (one ++ task 1 9 1) is ascii "refused 9 at 0\n")
     ∷ (responseOutput (partition 4 2 0 ++ partition 4 3 0 ++ task 0 9 1 ++ task 2 9 1) is ascii "refused 9 at 1\n")
     -- "(4,2), (4,3) refused, 2 at 1"
     ∷ (scheduleOutput (partition 4 2 0 ++ partition 4 3 0) is ascii "refused 2 at 1\n")
     ∷ (responseOutput (partition 4 2 0 ++ partition 4 3 0) is ascii "refused 2 at 1\n")
+    ∷ []
+
+pub refused-files-hold : Hold refusedFiles
+unfolding ceil sumBelow total has all those first filled settle padded partitionInRange firstBadPartition taskInRange firstBadTask demand atRest responseWithin firstUnadmitted freshB freshO freshStart arrivals active busyStart refill busySum deadline busyTest passes mayRun members idleListed candidates weight idleWeight memberWeights weights position firstExceeding S decision spend replenishes nextB nextO passTime tick release releaseAllowed load nextResponse settledResponse taskResponse ownTasks rankOf responseOfTask refusal form isRecord malformedAt payload readFrom reading ofKind eventsOf tableOf tasksOf eventsIn refusalOf eventAt decimalWithin unlessRefusedFile unlessInactive scheduleFrom scheduleOutput rowsOf responseOutput
+refused-files-hold = refl
+
+-- too many: seventeen partitions, whatever their fields; 65 tasks
+abbrev pub tooMany : List Row
+tooMany =
+    (scheduleOutput (times 17 (partition 4 5 0)) is ascii "refused 1 at 16\n")
+    ∷ (responseOutput (one ++ times 65 (task 1 9 1)) is ascii "refused 9 at 64\n")
+    ∷ []
+
+pub too-many-hold : Hold tooMany
+unfolding ceil sumBelow total has all those first filled settle padded partitionInRange firstBadPartition taskInRange firstBadTask demand atRest responseWithin firstUnadmitted freshB freshO freshStart arrivals active busyStart refill busySum deadline busyTest passes mayRun members idleListed candidates weight idleWeight memberWeights weights position firstExceeding S decision spend replenishes nextB nextO passTime tick release releaseAllowed load nextResponse settledResponse taskResponse ownTasks rankOf responseOfTask refusal form isRecord malformedAt payload readFrom reading ofKind eventsOf tableOf tasksOf eventsIn refusalOf eventAt decimalWithin unlessRefusedFile unlessInactive scheduleFrom scheduleOutput rowsOf responseOutput
+too-many-hold = refl
+
+-- schedules
+abbrev pub schedules : List Row
+schedules =
+    -- no event
+    (scheduleOutput one is ascii "tick pick\nend 0\n")
     -- a release between words, and one of an index that isn't active any more, which ends the output; of an index that isn't there, 300
     ∷ (scheduleOutput (partitions ++ word 0x20 0x4e ++ releasing 1 0 ++ word 0x05 0x00 ++ releasing 1 0 ++ word 0x05 0x00) is ascii "tick pick\n0 1\n1 release 1\n1 0\nrefused 6 at 1\n")
     ∷ (scheduleOutput (partitions ++ releasing 0x2c 0x01) is ascii "tick pick\nrefused 6 at 300\n")
@@ -107,13 +134,28 @@ files =
     ∷ (scheduleOutput (partition 4 1 2 ++ word 0 0 ++ word 0 0 ++ word 0 0) is ascii "tick pick\n0 idle\n1 idle\n2 0\nend 3\n")
     -- (3,1), (3,2) weigh 21845 and 43690, and word 87380 leaves 21845
     ∷ (scheduleOutput (partition 3 1 0 ++ partition 3 2 0 ++ 0x06 ∷ 0x00 ∷ 0x03 ∷ 0x00 ∷ 0x54 ∷ 0x55 ∷ 0x01 ∷ 0x00 ∷ []) is ascii "tick pick\n0 1\nend 1\n")
+    ∷ []
+
+pub schedules-hold : Hold schedules
+unfolding ceil sumBelow total has all those first filled settle padded partitionInRange firstBadPartition taskInRange firstBadTask demand atRest responseWithin firstUnadmitted freshB freshO freshStart arrivals active busyStart refill busySum deadline busyTest passes mayRun members idleListed candidates weight idleWeight memberWeights weights position firstExceeding S decision spend replenishes nextB nextO passTime tick release releaseAllowed load nextResponse settledResponse taskResponse ownTasks rankOf responseOfTask refusal form isRecord malformedAt payload readFrom reading ofKind eventsOf tableOf tasksOf eventsIn refusalOf eventAt decimalWithin unlessRefusedFile unlessInactive scheduleFrom scheduleOutput rowsOf responseOutput
+schedules-hold = refl
+
+-- response times
+abbrev pub responses : List Row
+responses =
+    -- no task
+    (responseOutput one is ascii "partition task response\nend 0\n")
     -- tasks of two partitions that interleave, one of them late; the release, refused above, is no matter here
     ∷ (responseOutput (one ++ partition 10 4 0 ++ task 0 9 1 ++ task 1 40 2 ++ task 0 9 1 ++ task 1 60 3 ++ releasing 0x2c 0x01) is ascii "partition task response\n0 0 7\n1 0 14\n0 1 late\n1 1 23\nend 4\n")
     ∷ []
 
-pub files-hold : Hold files
+pub responses-hold : Hold responses
 unfolding ceil sumBelow total has all those first filled settle padded partitionInRange firstBadPartition taskInRange firstBadTask demand atRest responseWithin firstUnadmitted freshB freshO freshStart arrivals active busyStart refill busySum deadline busyTest passes mayRun members idleListed candidates weight idleWeight memberWeights weights position firstExceeding S decision spend replenishes nextB nextO passTime tick release releaseAllowed load nextResponse settledResponse taskResponse ownTasks rankOf responseOfTask refusal form isRecord malformedAt payload readFrom reading ofKind eventsOf tableOf tasksOf eventsIn refusalOf eventAt decimalWithin unlessRefusedFile unlessInactive scheduleFrom scheduleOutput rowsOf responseOutput
-files-hold = refl
+responses-hold = refl
+
+-- all of them
+pub files-hold : Hold records × Hold refusedFiles × Hold tooMany × Hold schedules × Hold responses
+files-hold = (records-hold, refused-files-hold, too-many-hold, schedules-hold, responses-hold)
 
 -- a byte above the limit, whatever the bytes; and as many as the limit
 pub over-the-limit : (file : List ℕ) → length file ≡ 65537 → scheduleOutput file ≡ ascii "refused 8 at 65536\n"

@@ -9,7 +9,7 @@ use native.Mathlib.Nat.{le-refl}
 use lib.Seq.{length-take-le}
 use Rattle.scheduler.specs.States.{pairs}
 use Rattle.schedule_lines.specs.declared.Cursor.the-variants.{Header}
-use Rattle.outputs.proofs.Schedule.{toWrite, left}
+use Rattle.outputs.specs.ScheduleMoments.{toWrite, left}
 use Rattle.printing.proofs.Schedule.{Running, counted, refused-counted}
 use borrow.Author.Needs.{needs}
 use Rattle.printing.proofs.print_lines.Statement.{statement}

@@ -5,7 +5,7 @@ use native.Mathlib.Nat.{le-refl}
 use lib.ListN.{length}
 use lib.Seq.{length-take-le}
 use Rattle.response_lines.specs.declared.Cursor.the-variants.{Header}
-use Rattle.outputs.proofs.Response.{rowsToWrite, rowsLeft}
+use Rattle.outputs.specs.ResponseMoments.{rowsToWrite, rowsLeft}
 use Rattle.printing.proofs.Response.{Rows, rows-within, never-refused, counted, rows-begin}
 use borrow.Author.Needs.{needs}
 use Rattle.printing.proofs.print_rows.Statement.{statement}
