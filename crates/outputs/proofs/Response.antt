@@ -7,7 +7,7 @@ use mathlib.Core.Option.{Option, none}
 use native.Mathlib.Nat.{zero-add, add-zero}
 use native.Mathlib.Numerals.{add-one}
 use native.Mathlib.Omega.{arith}
-use borrow.Author.Tests.{le-leb, eqb-true, eqb-false}
+use borrow.Author.Tests.{eqb-true, eqb-false, lt-ltb}
 use lib.Dec.{eqb}
 use lib.ListN.{length, take, length-append}
 use Rattle.basis.specs.Words.{_!_}
@@ -27,7 +27,7 @@ use Rattle.lines.specs.Lines.{bytesOf, longestLine}
 use Rattle.lines.specs.Promises.{onto}
 use Rattle.lines.specs.declared.Line.the-variants as line
 use Rattle.lines.proofs.Longest.{no-longer}
-use Rattle.response_lines.specs.Coming.{Coming, badPlace, plain, coming}
+use Rattle.response_lines.specs.Coming.{Coming, plain, row, coming}
 use Rattle.response_lines.specs.Promises.{OneLine, Printing, madeAs, printedAs, printing, OneLineIs}
 use Rattle.response_lines.specs.declared.Cursor.{Cursor}
 use Rattle.response_lines.specs.declared.Cursor.the-variants as cursor
@@ -105,20 +105,17 @@ module _ (t : Table) (k : Tasks) where
   unfolding coming rowsToWrite rowsLeft rowsFrom
   went-task i call now = go (eqb i (k .count)) refl
     where
-      there : badPlace t k i ≡ none
-      there = rw (now .tasks, le-leb i (k .count) (now .inside))
-
       go : (a : Bool) → eqb i (k .count) ≡ a → RowWent (cursor.Task i) call
       go true e =
-          let made = one (cursor.Task i) call (record { fault = badPlace t k i; line = endLine (k .count); next = next.Nothing }) (rw e) there (end-short (k .count)) now in
+          let made = one (cursor.Task i) call (plain t k (endLine (k .count)) next.Nothing) (rw e) (now .tasks) (end-short (k .count)) now in
           let last : i ≡ k .count = eqb-true i (k .count) e in
           over (endLine (k .count)) (end-short (k .count)) (ap (λ (x : Printing). x .says) made) (ap (λ (x : Printing). x .buffer) made)
           (ap (rowsFrom t k i) {x = k .count - i} {y = 0} (omega (arith, last)))
       go false e =
-          let made = one (cursor.Task i) call (record { fault = badPlace t k i; line = rowOf t k i; next = next.Line (cursor.Task (i + 1)) }) (rw e) there (row-short i) now in
           let least : i ≤ k .count = now .inside in
           let other : i ≡ k .count → ⊥ = eqb-false i (k .count) e in
           let below : i < k .count = omega (arith, least, other) in
+          let made = one (cursor.Task i) call (row t k i) (rw e) (rw (now .tasks, lt-ltb i (k .count) below)) (row-short i) now in
           on (rowOf t k i) (cursor.Task (i + 1)) (row-short i) (omega (arith, below)) (ap (λ (x : Printing). x .says) made) (ap (λ (x : Printing). x .buffer) made)
           (ap (rowsFrom t k i) {x = k .count - i} {y = suc (k .count - (i + 1))} (omega (arith, below)))
           (record { table = now .table; tasks = now .tasks; inside = omega (arith, below) })

@@ -41,7 +41,7 @@ fn print_refusal(fd: i32, why: Refusal) -> usize
 // Writes out what the buffer holds where another line might not fit, and says how much it holds then.
 fn with_room(fd: i32, out: &[u8], used: usize) -> usize
     requires { ⌜ used ≤ length (now out) ⌝ }
-    ensures { λ r. ⌜ (r ≤ 4032) × (r ≤ used) ⌝ }
+    ensures { λ r. ⌜ r ≤ 4032 ⌝ }
 {
     if used <= 4032 {
         return used;

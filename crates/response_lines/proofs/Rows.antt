@@ -10,6 +10,7 @@ use borrow.Author.Tests.{ltb-true, eq-eqb, ne-eqb}
 use lib.Dec.{ltb, eqb}
 use lib.ListN.{length, length-append}
 use Rattle.basis.specs.Words.{_!_, has, those, orElse, unless}
+use Rattle.rules.specs.Numbers.{firstBadTask}
 use Rattle.rules.specs.Printers.{responseLine}
 use Rattle.rules.specs.Refusals.{Refused, refusedAs, badTable, badTasksOrIndex, refusal}
 use Rattle.rules.specs.TaskResponse.{rankOf, responseOfTask}
@@ -27,7 +28,7 @@ use Rattle.responses.specs.declared.Response.{Response}
 use Rattle.responses.specs.declared.Response.the-variants as response
 use Rattle.lines.specs.Lines.{bytesOf}
 use Rattle.lines.specs.declared.Line.the-variants as line
-use Rattle.response_lines.specs.Coming.{badTask, row}
+use Rattle.response_lines.specs.Coming.{row}
 use Rattle.response_lines.specs.Promises.{PutIs, RowIs}
 use Rattle.response_lines.specs.declared.Cursor.the-variants as cursor
 use Rattle.response_lines.specs.declared.Next.the-variants as next
@@ -87,9 +88,9 @@ module _ (t : Table) (k : Tasks) (i : ℕ) (x : Response) (e : TaskResponseIs t 
     -- a task that has a response is there
     pub row-there : i < 64
     unfolding has
-    row-there = go (badTask t k) refl (no-ground _ (given .0) 9 refl)
+    row-there = go (firstBadTask (t .count) (k .count) (k .partition) (k .gap) (k .cost)) refl (no-ground _ (given .0) 9 refl)
       where
-        go : (o : Option ℕ) → badTask t k ≡ o → orElse o (unless (ltb i (k .count)) i) ≡ none → i < 64
+        go : (o : Option ℕ) → firstBadTask (t .count) (k .count) (k .partition) (k .gap) (k .cost) ≡ o → orElse o (unless (ltb i (k .count)) i) ≡ none → i < 64
         go (some j) f h = some-is-none h
         go none f h =
             let few = tasks-good (t .count) (k .count) (k .partition) (k .gap) (k .cost) f .not-many in

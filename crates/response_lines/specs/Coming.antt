@@ -3,9 +3,8 @@ use Prim.Native.Nat.{ℕ, _+_}
 use mathlib.Core.Bool.{cond}
 use mathlib.Core.List.{List}
 use mathlib.Core.Option.{Option}
-use lib.Dec.{ltb, leb, eqb}
-use Rattle.basis.specs.Words.{orElse, unless}
-use Rattle.rules.specs.Numbers.{firstBadTask}
+use lib.Dec.{eqb}
+use Rattle.rules.specs.Refusals.{badTasks, badTasksOrIndex}
 use Rattle.rules.specs.Printers.{responseHeader, endLine, rowOf}
 use Rattle.rules.specs.declared.Table.{Table}
 use Rattle.rules.specs.declared.Tasks.{Tasks}
@@ -21,26 +20,20 @@ pub record Coming : Type 0 where
   pub next : Next
 
 module _ (t : Table) (k : Tasks) where
-  -- "first bad task; 64 for more than 64"
-  abbrev pub badTask : Option ℕ
-  badTask = firstBadTask (t .count) (k .count) (k .partition) (k .gap) (k .cost)
-
-  -- "A .. task asked for that isn't there is .. 9 with its index, after the fields"; the place after the last task is the end's
-  abbrev pub badPlace : ℕ → Option ℕ
-  badPlace i = orElse badTask (unless (leb i (k .count)) i)
-
   -- a line that no task makes
   abbrev pub plain : List ℕ → Next → Coming
-  plain line next = record { fault = badTask; line = line; next = next }
+  plain line next = record { fault = badTasks (t .count) (k .count) (k .partition) (k .gap) (k .cost) .applies; line = line; next = next }
 
-  -- the row of task i, by itself: the place after the last task isn't there either
+  -- the row of task i, which must be there
   abbrev pub row : ℕ → Coming
-  row i = record { fault = orElse badTask (unless (ltb i (k .count)) i); line = rowOf t k i; next = next.Line (cursor.Task (i + 1)) }
+  row i =
+      record {
+        fault = badTasksOrIndex (t .count) (k .count) (k .partition) (k .gap) (k .cost) i .applies;
+        line = rowOf t k i;
+        next = next.Line (cursor.Task (i + 1));
+      }
 
   -- the header, the row of a task or, after the last one, the end with the count
   unfoldable pub coming : Cursor → Coming
   coming cursor.Header = plain responseHeader (next.Line (cursor.Task 0))
-  coming (cursor.Task i) =
-      cond (eqb i (k .count))
-      (record { fault = badPlace i; line = endLine (k .count); next = next.Nothing })
-      (record { fault = badPlace i; line = rowOf t k i; next = next.Line (cursor.Task (i + 1)) })
+  coming (cursor.Task i) = cond (eqb i (k .count)) (plain (endLine (k .count)) next.Nothing) (row i)

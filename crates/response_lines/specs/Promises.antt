@@ -4,7 +4,7 @@ use mathlib.Core.Path.{_≡_}
 use mathlib.Core.List.{List, [], _∷_}
 use mathlib.Core.Option.{Option, some, none}
 use lib.ListN.{length}
-use Rattle.rules.specs.Refusals.{Refused, refusedAs, Ground, ground, badTable, shortBuffer, refusal}
+use Rattle.rules.specs.Refusals.{Refused, refusedAs, Ground, ground, badTable, badTasks, shortBuffer, refusal}
 use Rattle.rules.specs.declared.Table.{Table}
 use Rattle.rules.specs.declared.Tasks.{Tasks}
 use Rattle.ranges.specs.Outcome.{Outcome, refused, gives}
@@ -13,7 +13,7 @@ use Rattle.ranges.specs.declared.Verdict.{Verdict}
 use Rattle.lines.specs.Lines.{bytesOf}
 use Rattle.lines.specs.Promises.{onto}
 use Rattle.lines.specs.declared.Line.{Line}
-use Rattle.response_lines.specs.Coming.{Coming, badTask, plain, row, coming}
+use Rattle.response_lines.specs.Coming.{Coming, plain, row, coming}
 use Rattle.response_lines.specs.declared.Cursor.{Cursor}
 use Rattle.response_lines.specs.declared.Next.{Next}
 use Rattle.response_lines.specs.declared.Made.{Made}
@@ -58,7 +58,7 @@ module _ (t : Table) (k : Tasks) where
 
   -- what is against the table and the tasks: 1 and 9
   abbrev pub TasksJudgedIs : Verdict → Type 0
-  TasksJudgedIs v = verdictAs v ≡ refusal (table t ∷ ground 9 (badTask t k) ∷ [])
+  TasksJudgedIs v = verdictAs v ≡ refusal (table t ∷ badTasks (t .count) (k .count) (k .partition) (k .gap) (k .cost) ∷ [])
 
   -- a line that no task makes
   abbrev pub PlainIs : Line → Next → List ℕ → Made → List ℕ → Type 0

@@ -93,6 +93,11 @@ pub record Reading : Type 0 where
 abbrev pub andThen : Record → Reading → Reading
 andThen first later = record { records = first ∷ later .records; fault = later .fault }
 
+-- of a file over the limit nothing is read
+abbrev pub unlessOver : Option ℕ → Reading → Reading
+unlessOver none all = all
+unlessOver (some limit) all = record { records = []; fault = some limit }
+
 module _ (kinds file : List ℕ) where
   -- from an offset on. A record has some bytes, so as many rounds as the file has bytes are enough.
   unfoldable pub readFrom : ℕ → ℕ → ℕ → Reading
@@ -105,7 +110,7 @@ module _ (kinds file : List ℕ) where
 
   -- "A count is judged before the fields, a file's size before its records."
   unfoldable pub reading : Reading
-  reading = cond (leb (length file) mostBytes) (readFrom (length file) 0 0) (record { records = []; fault = some mostBytes })
+  reading = unlessOver (overLimit file) (readFrom (length file) 0 0)
 
 -- ---- what a file holds
 
