@@ -1,6 +1,7 @@
 // The plain records of the scheduler, and the enum of its refusals. The rules about them are definitions, in specs/.
 
 // A partition: period T, budget B and phase, in ticks.
+#[repr(C)]
 pub struct Part {
     pub period: u16,
     pub budget: u16,
@@ -8,6 +9,7 @@ pub struct Part {
 }
 
 // The partition table. Index 0 has the highest rank. Entries from `count` on are no part of it.
+#[repr(C)]
 pub struct Table {
     pub count: usize,
     pub period: [u16; 16],
@@ -16,6 +18,7 @@ pub struct Table {
 }
 
 // A task: the partition that it runs in, its shortest gap p and its cost e, in ticks.
+#[repr(C)]
 pub struct Task {
     pub partition: u16,
     pub gap: u16,
@@ -23,6 +26,7 @@ pub struct Task {
 }
 
 // The task table. Tasks of one partition rank in its order. Entries from `count` on are no part of it.
+#[repr(C)]
 pub struct Tasks {
     pub count: usize,
     pub partition: [u16; 64],

@@ -15,6 +15,7 @@ use standing::Test;
 use standing::admission;
 
 // The sixteen pairs: what is left of each budget, and the ticks until it comes again. Pairs beyond the table are 0, 0.
+#[repr(C)]
 pub struct State {
     pub b: [u16; 16],
     pub o: [u16; 16],
