@@ -20,8 +20,6 @@ pub mod Pick
 pub mod Tick
 pub mod TaskResponse
 pub mod Refusals
-pub mod MeterFile
-pub mod Records
 -- a fresh start, a tick and a release give states in range
 pub mod Keeps
 -- a run is the fold of its steps

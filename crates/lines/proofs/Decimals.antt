@@ -11,7 +11,7 @@ use lib.ListN.{length, set, length-set, length-append}
 use lib.Seq.{sets, append-snoc, length-sets}
 use mir.Syntax.{w64}
 use mir.Val.{Fits}
-use Rattle.rules.specs.Printers.{decimalWithin, decimal}
+use Rattle.file_rules.specs.Printers.{decimalWithin, decimal}
 use Rattle.lines.specs.Fields.{Put}
 use Rattle.lines.proofs.Puts.{set-sets}
 

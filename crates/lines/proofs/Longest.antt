@@ -7,7 +7,7 @@ use native.Mathlib.Omega.{arith}
 use lib.Dec.{eqb}
 use lib.ListN.{length, length-append}
 use Rattle.rules.specs.Candidates.{idle}
-use Rattle.rules.specs.Printers.{ascii, decimal, pickText, responseText, line}
+use Rattle.file_rules.specs.Printers.{ascii, decimal, pickText, responseText, line}
 use Rattle.rules.specs.Refusals.{refusedAs}
 use Rattle.lines.specs.Lines.{bytesOf, longestLine}
 use Rattle.lines.specs.declared.Line.{Line}

@@ -10,7 +10,7 @@ use lib.ListN.{length, set, length-set, length-append}
 use mir.Syntax.{w64}
 use mir.Val.{Fits}
 use Rattle.basis.specs.Reckoned.{Reckoned}
-use Rattle.rules.specs.Printers.{decimal, pickText, responseText}
+use Rattle.file_rules.specs.Printers.{decimal, pickText, responseText}
 use Rattle.rules.specs.Refusals.{refusedAs}
 use Rattle.rules.specs.declared.Refusal.{Refusal}
 use Rattle.lines.specs.Lines.{bytesOf}

@@ -4,7 +4,7 @@ use mathlib.Core.Path.{_≡_}
 use mathlib.Core.List.{List, [], _∷_, _++_}
 use lib.ListN.{length}
 use lib.Seq.{sets}
-use Rattle.rules.specs.Printers.{ascii, decimal}
+use Rattle.file_rules.specs.Printers.{ascii, decimal}
 use Rattle.lines.specs.declared.Fields.{Fields}
 use Rattle.lines.specs.declared.First.{First}
 use Rattle.lines.specs.declared.First.the-variants as first

@@ -4,7 +4,7 @@ ghost use mathlib.Core.List.{_∷_};
 ghost use mathlib.Core.Path.{_≡_};
 ghost use lib.ListN.{length};
 ghost use Rattle.basis.specs.Reckoned.{Reckoned};
-ghost use Rattle.rules.specs.Printers.{decimal, pickText, responseText};
+ghost use Rattle.file_rules.specs.Printers.{decimal, pickText, responseText};
 ghost use Rattle.rules.specs.Refusals.{refusedAs};
 ghost use Rattle.lines.specs.Lines.{bytesOf};
 ghost use Rattle.lines.specs.Fields.{firstText, laterText, lineOf, Put};

@@ -9,14 +9,13 @@ use borrow.Author.Tests.{not-true, not-false}
 use lib.Dec.{leb}
 use lib.ListN.{length, take, drop}
 use Rattle.basis.specs.Words.{has}
-use Rattle.rules.specs.Numbers.{mostBytes}
 use Rattle.rules.specs.Refusals.{refusedAs, malformed, refusal}
-use Rattle.rules.specs.MeterFile.{lengthAt, kindAt, nextAt, Form, form, isRecord, malformedAt, payload}
+use Rattle.file_rules.specs.MeterFile.{mostBytes, lengthAt, kindAt, nextAt, Form, form, isRecord, malformedAt, payload}
 use Rattle.rules.specs.declared.Refusal.the-variants.{BadRecord}
 use Rattle.rules.specs.declared.Refusal.{Refusal}
 use Rattle.laws.proofs.Tests.{none-is-some}
 use Rattle.laws.proofs.Refusals.{no-ground, file-alone}
-use Rattle.laws.proofs.MeterFile.{cut-head, not-held, no-kind, other-length, cut-payload, order-decides, over-limit, no-record, a-record, payload-refused, payload-is, next-further, not-malformed, Whole, record-whole}
+use Rattle.file_laws.proofs.MeterFile.{cut-head, not-held, no-kind, other-length, cut-payload, order-decides, over-limit, no-record, a-record, payload-refused, payload-is, next-further, not-malformed, Whole, record-whole}
 use Rattle.ranges.specs.Outcome.{Outcome, gives, unlessRefused}
 use Rattle.ranges.proofs.Outcomes.{was-refused, was-given}
 use Rattle.meter.specs.Forms.{shapeAs, Found, readAs}

@@ -1,7 +1,7 @@
 -- A form and an answer of the reader, as 01 has them.
 use Prim.Native.Nat.{ℕ}
 use Rattle.rules.specs.Refusals.{Refused, refusedAs}
-use Rattle.rules.specs.MeterFile as file
+use Rattle.file_rules.specs.MeterFile as file
 use Rattle.ranges.specs.Outcome.{Outcome, refused, gives}
 use Rattle.meter.specs.declared.Shape.{Shape}
 use Rattle.meter.specs.declared.Read.{Read}

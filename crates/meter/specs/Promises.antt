@@ -3,7 +3,7 @@ use Prim.Native.Nat.{ℕ}
 use mathlib.Core.Path.{_≡_}
 use mathlib.Core.List.{List, [], _∷_}
 use Rattle.rules.specs.Refusals.{refusedAs, malformed, refusal}
-use Rattle.rules.specs.MeterFile.{two, four, kindAt, nextAt, malformedAt, payload}
+use Rattle.file_rules.specs.MeterFile.{two, four, kindAt, nextAt, malformedAt, payload}
 use Rattle.rules.specs.declared.Refusal.{Refusal}
 use Rattle.ranges.specs.Outcome.{unlessRefused}
 use Rattle.meter.specs.Forms.{readAs, whyNot}

@@ -2,7 +2,7 @@
 ghost use mathlib.Core.Path.{_≡_};
 ghost use Prim.Native.Nat.{_+_, _*_};
 ghost use Rattle.basis.specs.Words.{_!_, has};
-ghost use Rattle.rules.specs.MeterFile.{form as formOf, isRecord};
+ghost use Rattle.file_rules.specs.MeterFile.{form as formOf, isRecord};
 ghost use Rattle.meter.specs.Forms.{shapeAs};
 ghost use Rattle.meter.specs.Promises.{TwoIs, FourIs, ReadRecordIs, PayloadIs, WhyRefusedIs};
 use rules::Refusal;

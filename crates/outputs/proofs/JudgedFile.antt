@@ -8,8 +8,8 @@ use Rattle.basis.specs.Words.{has}
 use Rattle.rules.specs.Numbers.{TableInRange, TasksInRange}
 use Rattle.rules.specs.Refusals.{Refused, refusedAs}
 use Rattle.rules.specs.Admission.{firstUnadmitted}
-use Rattle.rules.specs.MeterFile.{meterKinds, reading, beginning, tableOf, tasksOf, eventsIn, refusalOf}
-use Rattle.rules.specs.Printers.{refusedLine, unlessRefusedFile}
+use Rattle.file_rules.specs.MeterFile.{meterKinds, reading, beginning, tableOf, tasksOf, eventsIn, refusalOf}
+use Rattle.file_rules.specs.Printers.{refusedLine, unlessRefusedFile}
 use Rattle.rules.specs.declared.Refusal.{Refusal}
 use Rattle.laws.proofs.Tests.{none-is-some}
 use Rattle.laws.proofs.Refusals.{no-ground}

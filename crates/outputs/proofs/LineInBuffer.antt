@@ -11,7 +11,7 @@ use lib.ListN.{length, take, drop}
 use lib.Seq.{take-append-seam}
 use Rattle.basis.specs.Words.{unless}
 use Rattle.rules.specs.Refusals.{refusedAs}
-use Rattle.rules.specs.Printers.{refusedLine}
+use Rattle.file_rules.specs.Printers.{refusedLine}
 use Rattle.rules.specs.declared.Refusal.{Refusal}
 use Rattle.lines.specs.Lines.{bytesOf, longestLine}
 use Rattle.lines.specs.Promises.{onto}

@@ -13,8 +13,8 @@ use lib.ListN.{length, take, length-append}
 use Rattle.basis.specs.Words.{_!_}
 use Rattle.rules.specs.TaskResponse.{rankOf, responseOfTask}
 use Rattle.rules.specs.Refusals.{Refused, ground, refusal}
-use Rattle.rules.specs.MeterFile.{tableOf, tasksOf}
-use Rattle.rules.specs.Printers.{responseHeader, endLine, rowOf, rowsOf, responseOutput}
+use Rattle.file_rules.specs.MeterFile.{tableOf, tasksOf}
+use Rattle.file_rules.specs.Printers.{responseHeader, endLine, rowOf, rowsOf, responseOutput}
 use Rattle.rules.specs.declared.Table.{Table}
 use Rattle.rules.specs.declared.Tasks.{Tasks}
 use Rattle.laws.proofs.Numbers.{tasks-good}

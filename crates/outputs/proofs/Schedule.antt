@@ -11,16 +11,16 @@ use borrow.Author.Tests.{le-leb, eqb-true, eqb-false, ne-eqb}
 use lib.Dec.{leb, eqb}
 use lib.ListN.{length, take, length-append}
 use Rattle.basis.specs.Words.{unless}
-use Rattle.rules.specs.Numbers.{Pairs, TableInRange, StateInRange, mostBytes}
+use Rattle.rules.specs.Numbers.{Pairs, TableInRange, StateInRange}
 use Rattle.rules.specs.Refusals.{Refused, ground, unlessBefore, badTable, notAdmitted, refusal}
-use Rattle.rules.specs.MeterFile.{kindAt, nextAt, meterKinds, form, isRecord, Record, Reading, andThen, readFrom, reading, isEvent, eventsOf, beginning, tableOf, eventsIn, overLimit, malformedAt}
-use Rattle.rules.specs.Events.{Event, ticked, released, eventAt, after, inactive, ticksAfter}
-use Rattle.rules.specs.Printers.{scheduleHeader, endLine, eventLine, refusedLine, unlessInactive, scheduleFrom, scheduleOutput, freshOf}
+use Rattle.file_rules.specs.MeterFile.{mostBytes, kindAt, nextAt, meterKinds, form, isRecord, Record, Reading, andThen, readFrom, reading, isEvent, eventsOf, beginning, tableOf, eventsIn, overLimit, malformedAt}
+use Rattle.file_rules.specs.Events.{Event, ticked, released, eventAt, after, inactive, ticksAfter}
+use Rattle.file_rules.specs.Printers.{scheduleHeader, endLine, eventLine, refusedLine, unlessInactive, scheduleFrom, scheduleOutput, freshOf}
 use Rattle.rules.specs.declared.Refusal.the-variants.{NotActive}
 use Rattle.rules.specs.declared.Table.{Table}
 use Rattle.laws.proofs.Tests.{some-is-none, below-or-not}
-use Rattle.laws.proofs.MeterFile.{a-record, next-further, Whole, record-whole, Kind, partition, task, word, release, known-kind}
-use Rattle.laws.proofs.Records.{reading-small, reading-large, read-on, read-stops, read-ends, before-same, rounds-same, EventsFrom, events-from}
+use Rattle.file_laws.proofs.MeterFile.{a-record, next-further, Whole, record-whole, Kind, partition, task, word, release, known-kind}
+use Rattle.file_laws.proofs.Records.{reading-small, reading-large, read-on, read-stops, read-ends, before-same, rounds-same, EventsFrom, events-from}
 use Rattle.laws.proofs.Keeps.{fresh-in-range, release-in-range, tick-in-range}
 use Rattle.ranges.specs.Outcome.{refused, gives}
 use Rattle.ranges.specs.declared.Verdict.the-variants as verdict

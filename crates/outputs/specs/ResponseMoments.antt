@@ -2,7 +2,7 @@
 use Prim.Native.Nat.{ℕ, zero, suc, _+_, _-_, _≤_}
 use mathlib.Core.List.{List, _++_}
 use Rattle.rules.specs.Numbers.{TableInRange, TasksInRange}
-use Rattle.rules.specs.Printers.{responseHeader, endLine, rowOf}
+use Rattle.file_rules.specs.Printers.{responseHeader, endLine, rowOf}
 use Rattle.rules.specs.declared.Table.{Table}
 use Rattle.rules.specs.declared.Tasks.{Tasks}
 use Rattle.response_lines.specs.declared.Cursor.{Cursor}

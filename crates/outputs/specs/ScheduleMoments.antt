@@ -4,9 +4,9 @@ use mathlib.Core.Path.{_≡_}
 use mathlib.Core.List.{List, _++_}
 use mathlib.Core.Option.{none}
 use lib.ListN.{length}
-use Rattle.rules.specs.Numbers.{Pairs, TableInRange, StateInRange, mostBytes}
-use Rattle.rules.specs.MeterFile.{meterKinds, Reading, readFrom}
-use Rattle.rules.specs.Printers.{scheduleHeader, scheduleFrom}
+use Rattle.rules.specs.Numbers.{Pairs, TableInRange, StateInRange}
+use Rattle.file_rules.specs.MeterFile.{mostBytes, meterKinds, Reading, readFrom}
+use Rattle.file_rules.specs.Printers.{scheduleHeader, scheduleFrom}
 use Rattle.rules.specs.declared.Table.{Table}
 use Rattle.schedule_lines.specs.declared.Cursor.{Cursor}
 use Rattle.schedule_lines.specs.declared.Cursor.the-variants as cursor

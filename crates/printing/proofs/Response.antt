@@ -8,7 +8,7 @@ use native.Mathlib.Omega.{arith}
 use lib.ListN.{length, take, drop, length-drop}
 use lib.Seq.{length-take-le}
 use Rattle.rules.specs.Refusals.{refusedAs}
-use Rattle.rules.specs.Printers.{refusedLine, responseOutput}
+use Rattle.file_rules.specs.Printers.{refusedLine, responseOutput}
 use Rattle.rules.specs.declared.Refusal.{Refusal}
 use Rattle.rules.specs.declared.Table.{Table}
 use Rattle.rules.specs.declared.Tasks.{Tasks}

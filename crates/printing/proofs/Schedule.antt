@@ -7,7 +7,7 @@ use native.Mathlib.Omega.{arith}
 use lib.ListN.{length, take, drop, length-append, length-drop}
 use lib.Seq.{length-take-le}
 use Rattle.rules.specs.Refusals.{Refused, refusedAs}
-use Rattle.rules.specs.Printers.{refusedLine, scheduleOutput}
+use Rattle.file_rules.specs.Printers.{refusedLine, scheduleOutput}
 use Rattle.rules.specs.declared.Refusal.{Refusal}
 use Rattle.rules.specs.declared.Table.{Table}
 use Rattle.ranges.specs.declared.Verdict.the-variants as verdict

@@ -3,7 +3,7 @@ ghost use mathlib.Core.Path.{_≡_};
 ghost use Prim.Native.Nat.{_≤_};
 ghost use lib.ListN.{length};
 ghost use Rattle.rules.specs.Refusals.{refusedAs};
-ghost use Rattle.rules.specs.Printers.{refusedLine};
+ghost use Rattle.file_rules.specs.Printers.{refusedLine};
 ghost use Rattle.scheduler.specs.States.{pairs};
 ghost use Rattle.schedule_lines.specs.declared.Cursor.the-variants.{Header};
 ghost use Rattle.outputs.specs.ScheduleMoments.{Moment, toWrite};

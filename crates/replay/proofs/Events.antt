@@ -6,17 +6,17 @@ use mathlib.Core.Option.{Option, some, none}
 use native.Mathlib.Omega.{arith}
 use borrow.Author.Tests.{eq-eqb, ne-eqb}
 use Rattle.rules.specs.Refusals.{Refused, refusedAs, Ground, malformed, refusal}
-use Rattle.rules.specs.MeterFile.{two, four, lengthAt, kindAt, payloadAt, nextAt, meterKinds, form, malformedAt}
+use Rattle.file_rules.specs.MeterFile.{two, four, lengthAt, kindAt, payloadAt, nextAt, meterKinds, form, malformedAt}
 use Rattle.rules.specs.Pick.{decision}
 use Rattle.rules.specs.Tick.{tick}
 use Rattle.rules.specs.Release.{release}
-use Rattle.rules.specs.Events as rule
+use Rattle.file_rules.specs.Events as rule
 use Rattle.rules.specs.declared.Refusal.{Refusal}
 use Rattle.rules.specs.declared.Table.{Table}
 use Rattle.laws.proofs.Tests.{none-is-some}
 use Rattle.laws.proofs.Refusals.{nothing-last, record-first, refused-first, refused-then, file-alone}
-use Rattle.laws.proofs.MeterFile.{payload-is, Whole, record-whole, form-long}
-use Rattle.laws.proofs.Records.{field-at, four-at}
+use Rattle.file_laws.proofs.MeterFile.{payload-is, Whole, record-whole, form-long}
+use Rattle.file_laws.proofs.Records.{field-at, four-at}
 use Rattle.ranges.specs.Outcome.{refused, gives}
 use Rattle.ranges.specs.declared.Verdict.the-variants as verdict
 use Rattle.ranges.proofs.Verdicts.{verdict-refused, verdict-good}

@@ -5,8 +5,8 @@ use mathlib.Core.List.{List, [], _∷_}
 use mathlib.Core.Option.{Option, some, none}
 use Rattle.rules.specs.Numbers.{Pairs}
 use Rattle.rules.specs.Refusals.{Refused, refusedAs, Ground, ground, malformed, refusal}
-use Rattle.rules.specs.MeterFile.{kindAt, nextAt, meterKinds, malformedAt}
-use Rattle.rules.specs.Events as rule
+use Rattle.file_rules.specs.MeterFile.{kindAt, nextAt, meterKinds, malformedAt}
+use Rattle.file_rules.specs.Events as rule
 use Rattle.rules.specs.declared.Table.{Table}
 use Rattle.ranges.specs.Outcome.{Outcome, refused, gives}
 use Rattle.scheduler.specs.States.{pairs}

@@ -1,5 +1,5 @@
 // One record replayed: what a word or a release of a meter file does to the state.
-ghost use Rattle.rules.specs.Events.{ticked, released};
+ghost use Rattle.file_rules.specs.Events.{ticked, released};
 ghost use Rattle.rules.specs.Pick.{decision};
 ghost use Rattle.replay.specs.Promises.{DoneIs, ReplayIs};
 use draw::Decision;

@@ -11,7 +11,7 @@ use lib.Dec.{ltb, eqb}
 use lib.ListN.{length, length-append}
 use Rattle.basis.specs.Words.{_!_, has, those, orElse, unless}
 use Rattle.rules.specs.Numbers.{firstBadTask}
-use Rattle.rules.specs.Printers.{responseLine}
+use Rattle.file_rules.specs.Printers.{responseLine}
 use Rattle.rules.specs.Refusals.{Refused, refusedAs, badTable, badTasksOrIndex, refusal}
 use Rattle.rules.specs.TaskResponse.{rankOf, responseOfTask}
 use Rattle.rules.specs.declared.Refusal.{Refusal}

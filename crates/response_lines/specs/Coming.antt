@@ -5,7 +5,7 @@ use mathlib.Core.List.{List}
 use mathlib.Core.Option.{Option}
 use lib.Dec.{eqb}
 use Rattle.rules.specs.Refusals.{badTasks, badTasksOrIndex}
-use Rattle.rules.specs.Printers.{responseHeader, endLine, rowOf}
+use Rattle.file_rules.specs.Printers.{responseHeader, endLine, rowOf}
 use Rattle.rules.specs.declared.Table.{Table}
 use Rattle.rules.specs.declared.Tasks.{Tasks}
 use Rattle.response_lines.specs.declared.Cursor.{Cursor}

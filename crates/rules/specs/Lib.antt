@@ -12,9 +12,5 @@ pub mod Release
 pub mod Run
 pub mod TaskResponse
 pub mod Refusals
-pub mod MeterFile
-pub mod Events
-pub mod Printers
-pub mod FileCase
 pub mod Sums
 pub mod Corners

@@ -64,7 +64,3 @@ pub record StateInRange (n : ℕ) (T B b o : List ℕ) : Type 0 where
 pub record Pairs : Type 0 where
   pub b : List ℕ
   pub o : List ℕ
-
--- "A file is at most 65,536 bytes."
-abbrev pub mostBytes : ℕ
-mostBytes = 65536

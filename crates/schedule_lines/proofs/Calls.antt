@@ -4,7 +4,7 @@ use mathlib.Core.Path.{_≡_, sym, ap, subst}
 use mathlib.Core.List.{List}
 use borrow.Author.Tests.{eq-eqb, ne-eqb}
 use lib.ListN.{length}
-use Rattle.rules.specs.Printers.{endLine}
+use Rattle.file_rules.specs.Printers.{endLine}
 use Rattle.rules.specs.declared.Table.{Table}
 use Rattle.scheduler.specs.States.{pairs}
 use Rattle.scheduler.specs.declared.State.{State}

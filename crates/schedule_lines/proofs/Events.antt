@@ -12,10 +12,10 @@ use lib.Dec.{leb, eqb}
 use lib.ListN.{length}
 use Rattle.basis.specs.Words.{unless}
 use Rattle.rules.specs.Refusals.{Refused, refusedAs, malformed, shortBuffer, refusal}
-use Rattle.rules.specs.MeterFile.{kindAt, nextAt, meterKinds, malformedAt}
+use Rattle.file_rules.specs.MeterFile.{kindAt, nextAt, meterKinds, malformedAt}
 use Rattle.rules.specs.Release.{releaseAllowed}
-use Rattle.rules.specs.Events as rule
-use Rattle.rules.specs.Printers.{eventLine, releaseLine}
+use Rattle.file_rules.specs.Events as rule
+use Rattle.file_rules.specs.Printers.{eventLine, releaseLine}
 use Rattle.rules.specs.declared.Refusal.{Refusal}
 use Rattle.rules.specs.declared.Refusal.the-variants.{BadPartition, NotAdmitted, BadPair, NoWord, NotListed, NotActive, ShortBuffer, BadRecord, BadTask}
 use Rattle.rules.proofs.Refusal.{the-type}

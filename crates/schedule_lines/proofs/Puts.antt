@@ -5,9 +5,9 @@ use mathlib.Core.List.{List, [], _∷_}
 use mathlib.Core.Option.{Option, some, none}
 use borrow.Author.Tests.{eq-eqb, ne-eqb, le-leb, lt-leb}
 use lib.ListN.{length}
-use Rattle.rules.specs.Numbers.{Pairs, mostBytes}
+use Rattle.rules.specs.Numbers.{Pairs}
 use Rattle.rules.specs.Refusals.{Refused, refusedAs, shortBuffer, refusal}
-use Rattle.rules.specs.MeterFile.{overLimit}
+use Rattle.file_rules.specs.MeterFile.{mostBytes, overLimit}
 use Rattle.rules.specs.declared.Refusal.{Refusal}
 use Rattle.rules.specs.declared.Refusal.the-variants.{BadRecord}
 use Rattle.rules.specs.declared.Table.{Table}

@@ -6,9 +6,9 @@ use mathlib.Core.Option.{Option, none}
 use lib.Dec.{eqb}
 use lib.ListN.{length}
 use Rattle.rules.specs.Numbers.{Pairs}
-use Rattle.rules.specs.MeterFile.{kindAt, nextAt, meterKinds, overLimit, malformedAt}
-use Rattle.rules.specs.Events.{Event, ticked, released, eventAt, after, inactive}
-use Rattle.rules.specs.Printers.{scheduleHeader, endLine, eventLine}
+use Rattle.file_rules.specs.MeterFile.{kindAt, nextAt, meterKinds, overLimit, malformedAt}
+use Rattle.file_rules.specs.Events.{Event, ticked, released, eventAt, after, inactive}
+use Rattle.file_rules.specs.Printers.{scheduleHeader, endLine, eventLine}
 use Rattle.rules.specs.declared.Table.{Table}
 use Rattle.schedule_lines.specs.declared.Cursor.{Cursor}
 use Rattle.schedule_lines.specs.declared.Cursor.the-variants as cursor

@@ -8,8 +8,8 @@ use lib.Dec.{leb, eqb}
 use lib.ListN.{length}
 use Rattle.rules.specs.Numbers.{Pairs}
 use Rattle.rules.specs.Refusals.{Refused, refusedAs, Ground, ground, malformed, shortBuffer, refusal}
-use Rattle.rules.specs.MeterFile.{overLimit}
-use Rattle.rules.specs.Printers.{releaseLine}
+use Rattle.file_rules.specs.MeterFile.{overLimit}
+use Rattle.file_rules.specs.Printers.{releaseLine}
 use Rattle.rules.specs.declared.Refusal.{Refusal}
 use Rattle.rules.specs.declared.Table.{Table}
 use Rattle.ranges.specs.Outcome.{Outcome, refused, gives}

@@ -4,7 +4,7 @@ use mathlib.Core.Path.{_≡_, refl, sym, _∙_, ap}
 use mathlib.Core.List.{List, [], _∷_}
 use mathlib.Core.Option.{Option, some}
 use Rattle.rules.specs.Refusals.{Refused, refusedAs, badTable, badTasks, notAdmitted, refusal}
-use Rattle.rules.specs.MeterFile.{refusalOf}
+use Rattle.file_rules.specs.MeterFile.{refusalOf}
 use Rattle.rules.specs.declared.Refusal.{Refusal}
 use Rattle.rules.specs.declared.Refusal.the-variants.{NotAdmitted}
 use Rattle.rules.specs.declared.Table.{Table}

@@ -10,16 +10,15 @@ use native.Mathlib.Omega.{arith}
 use borrow.Author.Tests.{eqb-true}
 use lib.ListN.{length, length-append}
 use Rattle.basis.specs.Words.{padded}
-use Rattle.rules.specs.Numbers.{mostBytes}
 use Rattle.rules.specs.Refusals.{refusedAs, malformed, refusal}
-use Rattle.rules.specs.MeterFile.{two, lengthAt, kindAt, nextAt, meterKinds, form, isRecord, malformedAt, Record, Reading, andThen, readFrom, reading, ofKind, tableFrom, tasksFrom, isEvent, eventsOf, beginning, tableOf, tasksOf, eventsIn}
+use Rattle.file_rules.specs.MeterFile.{mostBytes, two, lengthAt, kindAt, nextAt, meterKinds, form, isRecord, malformedAt, Record, Reading, andThen, readFrom, reading, ofKind, tableFrom, tasksFrom, isEvent, eventsOf, beginning, tableOf, tasksOf, eventsIn}
 use Rattle.rules.specs.declared.Refusal.{Refusal}
 use Rattle.rules.specs.declared.Table.{Table}
 use Rattle.rules.specs.declared.Tasks.{Tasks}
 use Rattle.laws.proofs.Tests.{below-or-not, none-is-some}
 use Rattle.laws.proofs.Refusals.{file-alone}
-use Rattle.laws.proofs.MeterFile.{over-limit, no-record, a-record, payload-is, Whole, record-whole, Kind, partition, task, word, release, known-kind}
-use Rattle.laws.proofs.Records.{read-on, read-stops, read-ends, reading-small, reading-large, of-kind-this, of-kind-other, of-kind-few, column-next, field-at, event-kind, no-events-more, events-begin}
+use Rattle.file_laws.proofs.MeterFile.{over-limit, no-record, a-record, payload-is, Whole, record-whole, Kind, partition, task, word, release, known-kind}
+use Rattle.file_laws.proofs.Records.{read-on, read-stops, read-ends, reading-small, reading-large, of-kind-this, of-kind-other, of-kind-few, column-next, field-at, event-kind, no-events-more, events-begin}
 use Rattle.ranges.specs.Verdicts.{verdictAs}
 use Rattle.ranges.specs.declared.Verdict.the-variants as verdict
 use Rattle.ranges.proofs.Verdicts.{verdict-good}

@@ -5,7 +5,7 @@ use mathlib.Core.List.{List}
 use borrow.Author.Tests.{eq-eqb, ne-eqb}
 use lib.ListN.{length, set}
 use lib.Seq.{set-out}
-use Rattle.rules.specs.MeterFile.{two}
+use Rattle.file_rules.specs.MeterFile.{two}
 use Rattle.rules.specs.declared.Table.{Table}
 use Rattle.rules.specs.declared.Tasks.{Tasks}
 use Rattle.whole_file.specs.Inner.{withPartition, withTask, withRecord}

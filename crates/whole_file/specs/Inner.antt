@@ -8,7 +8,7 @@ use lib.Dec.{eqb}
 use lib.ListN.{length, set, replicate}
 use Rattle.rules.specs.Numbers.{mostPartitions, mostTasks}
 use Rattle.rules.specs.Refusals.{Refused, malformed, badTable, badTasks, notAdmitted, refusal}
-use Rattle.rules.specs.MeterFile.{two, meterKinds, reading, tableOf, tasksOf, eventsIn, beginning}
+use Rattle.file_rules.specs.MeterFile.{two, meterKinds, reading, tableOf, tasksOf, eventsIn, beginning}
 use Rattle.rules.specs.declared.Table.{Table}
 use Rattle.rules.specs.declared.Tasks.{Tasks}
 use Rattle.ranges.specs.Verdicts.{verdictAs}

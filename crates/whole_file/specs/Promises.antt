@@ -5,7 +5,7 @@ use mathlib.Core.List.{List}
 use mathlib.Core.Option.{Option, some, none}
 use lib.ListN.{length}
 use Rattle.rules.specs.Refusals.{Refused}
-use Rattle.rules.specs.MeterFile.{tableOf, tasksOf, eventsIn, beginning, refusalOf}
+use Rattle.file_rules.specs.MeterFile.{tableOf, tasksOf, eventsIn, beginning, refusalOf}
 use Rattle.rules.specs.declared.Table.{Table}
 use Rattle.rules.specs.declared.Tasks.{Tasks}
 use Rattle.ranges.specs.Verdicts.{verdictAs}

@@ -1,5 +1,5 @@
 use Rattle.rules.specs.Candidates.{idle}
-use Rattle.rules.specs.Printers.{ascii}
+use Rattle.file_rules.specs.Printers.{ascii}
 use Rattle.lines.proofs.Parts.{by-word, by-number}
 use Rattle.lines.proofs.pick_field.Statement.{statement}
 use Rattle.lines.proofs.pick_field.Tie as tie

@@ -1,4 +1,4 @@
-use Rattle.rules.specs.Printers.{ascii}
+use Rattle.file_rules.specs.Printers.{ascii}
 use Rattle.lines.proofs.Parts.{by-word, by-number}
 use Rattle.lines.proofs.response_field.Statement.{statement}
 use Rattle.lines.proofs.response_field.Tie as tie

@@ -1,4 +1,4 @@
-use Rattle.laws.proofs.MeterFile.{nothing-past}
+use Rattle.file_laws.proofs.MeterFile.{nothing-past}
 use mathlib.Core.Path.{sym}
 use borrow.Author.Needs.{needs}
 use Rattle.meter.proofs.byte.Statement.{statement}

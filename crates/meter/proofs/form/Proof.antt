@@ -1,6 +1,6 @@
 use mathlib.Core.Path.{sym, ap}
-use Rattle.rules.specs.MeterFile.{form}
-use Rattle.laws.proofs.MeterFile.{form-none}
+use Rattle.file_rules.specs.MeterFile.{form}
+use Rattle.file_laws.proofs.MeterFile.{form-none}
 use Rattle.meter.proofs.form.Statement.{statement}
 use Rattle.meter.proofs.form.Tie as tie
 

@@ -1,4 +1,4 @@
-use Rattle.laws.proofs.MeterFile.{four-past}
+use Rattle.file_laws.proofs.MeterFile.{four-past}
 use borrow.Author.Needs.{needs}
 use Rattle.meter.proofs.four.Statement.{statement}
 use Rattle.meter.proofs.four.Tie as tie

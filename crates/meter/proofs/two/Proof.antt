@@ -1,4 +1,4 @@
-use Rattle.laws.proofs.MeterFile.{two-past}
+use Rattle.file_laws.proofs.MeterFile.{two-past}
 use borrow.Author.Needs.{needs}
 use Rattle.meter.proofs.two.Statement.{statement}
 use Rattle.meter.proofs.two.Tie as tie

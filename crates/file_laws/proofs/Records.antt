@@ -12,11 +12,10 @@ use lib.Dec.{eqb}
 use lib.ListN.{length, set, take, drop, length-append, length-map}
 use lib.Seq.{take-all, take-append-le, set-out, getD-take, getD-drop, length-take-le}
 use Rattle.basis.specs.Words.{_!_, padded}
-use Rattle.rules.specs.Numbers.{mostBytes}
-use Rattle.rules.specs.MeterFile.{two, four, kindAt, nextAt, form, isRecord, Record, Reading, andThen, readFrom, reading, ofKind, column, isEvent, eventsOf, beginning}
+use Rattle.file_rules.specs.MeterFile.{mostBytes, two, four, kindAt, nextAt, form, isRecord, Record, Reading, andThen, readFrom, reading, ofKind, column, isEvent, eventsOf, beginning}
 use Rattle.laws.proofs.Tests.{below-or-not, some-is-none}
-use Rattle.laws.proofs.MeterFile.{order-decides, Whole, record-whole, next-further, Kind, partition, task, word, release, known-kind}
+use Rattle.file_laws.proofs.MeterFile.{order-decides, Whole, record-whole, next-further, Kind, partition, task, word, release, known-kind}
 use Rattle.laws.proofs.Padded.{padded-next, padded-long}
 
 -- ---- reading on
 module _ (kinds file : List ℕ) (rounds before at : ℕ) where

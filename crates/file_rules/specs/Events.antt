@@ -5,12 +5,12 @@ use mathlib.Core.List.{List}
 use mathlib.Core.Option.{Option, none}
 use lib.Dec.{eqb}
 use Rattle.basis.specs.Words.{unless}
 use Rattle.rules.specs.Numbers.{Pairs}
 use Rattle.rules.specs.Pick.{decision}
 use Rattle.rules.specs.Tick.{tick}
 use Rattle.rules.specs.Release.{release, releaseAllowed}
-use Rattle.rules.specs.MeterFile.{two, four}
+use Rattle.file_rules.specs.MeterFile.{two, four}
 use Rattle.rules.specs.declared.Table.{Table}
 
 -- a tick for a pick, or a release of an index
 pub data Event : Type 0 where

@@ -6,10 +6,10 @@ use mathlib.Core.Option.{Option, some, none}
 use lib.Dec.{leb, ltb, eqb}
 use lib.ListN.{length, take, drop}
 use Rattle.basis.specs.Words.{_!_, has, orElse, unless, found, padded}
-use Rattle.rules.specs.Numbers.{mostPartitions, mostTasks, mostBytes}
+use Rattle.rules.specs.Numbers.{mostPartitions, mostTasks}
 use Rattle.rules.specs.Refusals.{Refused, malformed, badTable, badTasks, notAdmitted, refusal}
 use Rattle.rules.specs.declared.Table.{Table}
 use Rattle.rules.specs.declared.Tasks.{Tasks}
 
 -- ---- a record
 
@@ -54,6 +54,10 @@ form kind =
 -- the kinds that 01's files may hold
 abbrev pub meterKinds : List ℕ
 meterKinds = 1 ∷ 2 ∷ 3 ∷ 4 ∷ []
+
+-- "A file is at most 65,536 bytes."
+abbrev pub mostBytes : ℕ
+mostBytes = 65536
 
 -- "a file over the limit (offset 65,536)"
 abbrev pub overLimit : List ℕ → Option ℕ

@@ -10,9 +10,8 @@ use borrow.Author.Tests.{leb-true, ltb-true, eqb-true, le-leb, lt-leb, lt-ltb, e
 use lib.Dec.{leb, ltb, eqb}
 use lib.ListN.{length, List·getD-eq-default}
 use Rattle.basis.specs.Words.{_!_, has, orElse, unless}
-use Rattle.rules.specs.Numbers.{mostBytes}
-use Rattle.rules.specs.MeterFile.{two, four, lengthAt, kindAt, payloadAt, nextAt, Form, form, isRecord, malformedAt, payload}
+use Rattle.file_rules.specs.MeterFile.{mostBytes, two, four, lengthAt, kindAt, payloadAt, nextAt, Form, form, isRecord, malformedAt, payload}
 use Rattle.laws.proofs.Tests.{and-left, and-right, some-is-none}
 
 -- past the end there are zeros
 pub nothing-past : (xs : List ℕ) (i : ℕ) → length xs ≤ i → xs ! i ≡ 0

@@ -7,15 +7,15 @@ use mathlib.Core.List.{List, [], _∷_, _++_}
 use mathlib.Core.Option.{Option, some, none}
 use lib.Dec.{ltb, eqb}
 use Rattle.basis.specs.Words.{_!_}
 use Rattle.rules.specs.Numbers.{Pairs}
 use Rattle.rules.specs.FreshStart.{freshStart}
 use Rattle.rules.specs.Candidates.{idle}
 use Rattle.rules.specs.TaskResponse.{rankOf, responseOfTask}
 use Rattle.rules.specs.Refusals.{Refused}
-use Rattle.rules.specs.MeterFile.{Record, tableOf, tasksOf, eventsIn, refusalOf}
-use Rattle.rules.specs.Events.{Event, ticked, released, eventAt, after, inactive, ticksAfter}
+use Rattle.file_rules.specs.MeterFile.{Record, tableOf, tasksOf, eventsIn, refusalOf}
+use Rattle.file_rules.specs.Events.{Event, ticked, released, eventAt, after, inactive, ticksAfter}
 use Rattle.rules.specs.declared.Table.{Table}
 use Rattle.rules.specs.declared.Tasks.{Tasks}
 
 -- ---- fields
 

@@ -5,20 +5,20 @@ use mathlib.Core.List.{List, [], _∷_, _++_}
 use lib.ListN.{length}
 use Rattle.basis.specs.Words.{ceil, sumBelow, total, has, all, those, first, filled, settle, padded}
 use Rattle.basis.specs.Rows.{Row, _is_, Hold, answer}
 use Rattle.rules.specs.Numbers.{partitionInRange, firstBadPartition, taskInRange, firstBadTask}
 use Rattle.rules.specs.Admission.{demand, atRest, responseWithin, firstUnadmitted}
 use Rattle.rules.specs.FreshStart.{freshB, freshO, freshStart}
 use Rattle.rules.specs.BusyLength.{arrivals, active, busyStart, refill, busySum, deadline, busyTest, passes}
 use Rattle.rules.specs.Candidates.{mayRun, members, idleListed, candidates}
 use Rattle.rules.specs.Weights.{weight, idleWeight, memberWeights, weights}
 use Rattle.rules.specs.Pick.{position, firstExceeding, S, decision}
 use Rattle.rules.specs.Tick.{spend, replenishes, nextB, nextO, passTime, tick}
 use Rattle.rules.specs.Release.{release, releaseAllowed}
 use Rattle.rules.specs.TaskResponse.{load, nextResponse, settledResponse, taskResponse, ownTasks, rankOf, responseOfTask}
 use Rattle.rules.specs.Refusals.{refusal}
-use Rattle.rules.specs.MeterFile.{meterKinds, form, isRecord, malformedAt, payload, readFrom, reading, ofKind, eventsOf, tableOf, tasksOf, eventsIn, refusalOf}
-use Rattle.rules.specs.Events.{eventAt}
-use Rattle.rules.specs.Printers.{ascii, decimalWithin, unlessRefusedFile, unlessInactive, scheduleFrom, scheduleOutput, rowsOf, responseOutput}
+use Rattle.file_rules.specs.MeterFile.{meterKinds, form, isRecord, malformedAt, payload, readFrom, reading, ofKind, eventsOf, tableOf, tasksOf, eventsIn, refusalOf}
+use Rattle.file_rules.specs.Events.{eventAt}
+use Rattle.file_rules.specs.Printers.{ascii, decimalWithin, unlessRefusedFile, unlessInactive, scheduleFrom, scheduleOutput, rowsOf, responseOutput}
 
 -- "`08 00 01 00 04 00 01 00 00 00`, `08 00 01 00 06 00 02 00 00 00`"
 abbrev partitions : List ℕ

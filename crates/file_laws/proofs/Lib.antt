@@ -1,0 +1,3 @@
+-- The laws about meter files: of a record, and of the records of a file.
+pub mod MeterFile
+pub mod Records

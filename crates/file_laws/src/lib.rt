@@ -1,0 +1,1 @@
+// The laws about meter files: no code, only proofs/.
