@@ -1,5 +1,5 @@
 -- 01's first case as a meter file, byte for byte, and files of our own, worked by hand: what the two printers write of them.
-use Prim.Native.Nat.{ℕ, zero, suc}
+use Prim.Native.Nat.{ℕ}
 use mathlib.Core.Path.{_≡_, refl}
 use mathlib.Core.List.{List, [], _∷_, _++_}
 use lib.ListN.{length}
@@ -39,10 +39,10 @@ file-case-schedule = refl
 -- ---- files of our own
 
 -- records whose fields are a byte each, and zeros
-abbrev partition : ℕ → ℕ → ℕ → List ℕ
+abbrev pub partition : ℕ → ℕ → ℕ → List ℕ
 partition T B phase = 0x08 ∷ 0x00 ∷ 0x01 ∷ 0x00 ∷ T ∷ 0x00 ∷ B ∷ 0x00 ∷ phase ∷ 0x00 ∷ []
 
-abbrev task : ℕ → ℕ → ℕ → List ℕ
+abbrev pub task : ℕ → ℕ → ℕ → List ℕ
 task partition p e = 0x08 ∷ 0x00 ∷ 0x02 ∷ 0x00 ∷ partition ∷ 0x00 ∷ p ∷ 0x00 ∷ e ∷ 0x00 ∷ []
 
 -- a release, its index as two bytes
@@ -50,13 +50,8 @@ abbrev releasing : ℕ → ℕ → List ℕ
 releasing low high = 0x04 ∷ 0x00 ∷ 0x04 ∷ 0x00 ∷ low ∷ high ∷ []
 
 -- (4,1) alone: ten bytes
-abbrev one : List ℕ
+abbrev pub one : List ℕ
 one = partition 4 1 0
-
--- a record so many times
-abbrev times : ℕ → List ℕ → List ℕ
-times zero bytes = []
-times (suc n) bytes = bytes ++ times n bytes
 
 -- records of 01's file, at an offset and after a kind
 abbrev pub records : List Row
@@ -111,17 +106,6 @@ pub refused-files-hold : Hold refusedFiles
 unfolding ceil sumBelow total has all those first filled settle padded partitionInRange firstBadPartition taskInRange firstBadTask demand atRest responseWithin firstUnadmitted freshB freshO freshStart arrivals active busyStart refill busySum deadline busyTest passes mayRun members idleListed candidates weight idleWeight memberWeights weights position firstExceeding S decision spend replenishes nextB nextO passTime tick release releaseAllowed load nextResponse settledResponse taskResponse ownTasks rankOf responseOfTask refusal form isRecord malformedAt payload readFrom reading ofKind eventsOf tableOf tasksOf eventsIn refusalOf eventAt decimalWithin unlessRefusedFile unlessInactive scheduleFrom scheduleOutput rowsOf responseOutput
 refused-files-hold = refl
 
--- too many: seventeen partitions, whatever their fields; 65 tasks
-abbrev pub tooMany : List Row
-tooMany =
-    (scheduleOutput (times 17 (partition 4 5 0)) is ascii "refused 1 at 16\n")
-    ∷ (responseOutput (one ++ times 65 (task 1 9 1)) is ascii "refused 9 at 64\n")
-    ∷ []
-
-pub too-many-hold : Hold tooMany
-unfolding ceil sumBelow total has all those first filled settle padded partitionInRange firstBadPartition taskInRange firstBadTask demand atRest responseWithin firstUnadmitted freshB freshO freshStart arrivals active busyStart refill busySum deadline busyTest passes mayRun members idleListed candidates weight idleWeight memberWeights weights position firstExceeding S decision spend replenishes nextB nextO passTime tick release releaseAllowed load nextResponse settledResponse taskResponse ownTasks rankOf responseOfTask refusal form isRecord malformedAt payload readFrom reading ofKind eventsOf tableOf tasksOf eventsIn refusalOf eventAt decimalWithin unlessRefusedFile unlessInactive scheduleFrom scheduleOutput rowsOf responseOutput
-too-many-hold = refl
-
 -- schedules
 abbrev pub schedules : List Row
 schedules =
@@ -154,8 +138,8 @@ unfolding ceil sumBelow total has all those first filled settle padded partition
 responses-hold = refl
 
 -- all of them
-pub files-hold : Hold records × Hold refusedFiles × Hold tooMany × Hold schedules × Hold responses
-files-hold = (records-hold, refused-files-hold, too-many-hold, schedules-hold, responses-hold)
+pub files-hold : Hold records × Hold refusedFiles × Hold schedules × Hold responses
+files-hold = (records-hold, refused-files-hold, schedules-hold, responses-hold)
 
 -- a byte above the limit, whatever the bytes; and as many as the limit
 pub over-the-limit : (file : List ℕ) → length file ≡ 65537 → scheduleOutput file ≡ ascii "refused 8 at 65536\n"
