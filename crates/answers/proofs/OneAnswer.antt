@@ -41,8 +41,9 @@ use Rattle.responses.specs.Answers.{responseAs}
 use Rattle.responses.specs.Promises.{TaskResponseIs}
 use Rattle.responses.specs.declared.Response.{Response}
 use Rattle.responses.specs.declared.Response.the-variants as response
+use Rattle.bytes.specs.Promises.{TwoIs, FourIs}
 use Rattle.meter.specs.Forms.{readAs}
-use Rattle.meter.specs.Promises.{TwoIs, FourIs, ReadRecordIs, PayloadIs, WhyRefusedIs}
+use Rattle.meter.specs.Promises.{ReadRecordIs, PayloadIs, WhyRefusedIs}
 use Rattle.meter.specs.declared.Read.{Read}
 use Rattle.meter.specs.declared.Read.the-variants as read
 use Rattle.whole_file.specs.Promises.{Judged, judgedAs, JudgeFileIs}

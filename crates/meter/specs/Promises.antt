@@ -3,18 +3,11 @@ use Prim.Native.Nat.{ℕ}
 use mathlib.Core.Path.{_≡_}
 use mathlib.Core.List.{List, [], _∷_}
 use Rattle.rules.specs.Refusals.{refusedAs, malformed, refusal}
-use Rattle.file_rules.specs.MeterFile.{two, four, kindAt, nextAt, malformedAt, payload}
+use Rattle.file_rules.specs.MeterFile.{kindAt, nextAt, malformedAt, payload}
 use Rattle.rules.specs.declared.Refusal.{Refusal}
 use Rattle.ranges.specs.Outcome.{unlessRefused}
 use Rattle.meter.specs.Forms.{readAs, whyNot}
 use Rattle.meter.specs.declared.Read.{Read}
-
--- the numbers of two and of four bytes
-abbrev pub TwoIs : List ℕ → ℕ → ℕ → Type 0
-TwoIs part at r = r ≡ two part at
-
-abbrev pub FourIs : List ℕ → ℕ → ℕ → Type 0
-FourIs part at r = r ≡ four part at
 
 module _ (kinds : List ℕ) (before : ℕ) (file : List ℕ) (at : ℕ) where
   -- the record at an offset: refusal 8

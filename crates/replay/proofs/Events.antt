@@ -28,7 +28,8 @@ use Rattle.scheduler.specs.Promises.{Change, changedAs, change, table, state, R
 use Rattle.scheduler.specs.declared.State.{State}
 use Rattle.scheduler.specs.declared.Changed.{Changed}
 use Rattle.meter.specs.Forms.{whyNot}
-use Rattle.meter.specs.Promises.{TwoIs, FourIs, ReadRecordIs, PayloadIs, WhyRefusedIs}
+use Rattle.bytes.specs.Promises.{TwoIs, FourIs}
+use Rattle.meter.specs.Promises.{ReadRecordIs, PayloadIs, WhyRefusedIs}
 use Rattle.meter.specs.declared.Read.{Read}
 use Rattle.meter.specs.declared.Read.the-variants as read
 use Rattle.meter.proofs.Records.{Told, told-refused, told-record}

@@ -2,12 +2,12 @@
 ghost use Rattle.file_rules.specs.Events.{ticked, released};
 ghost use Rattle.rules.specs.Pick.{decision};
 ghost use Rattle.replay.specs.Promises.{DoneIs, ReplayIs};
+use bytes::four;
+use bytes::two;
 use draw::Decision;
 use meter::Read;
-use meter::four;
 use meter::payload;
 use meter::read_record;
-use meter::two;
 use meter::why_refused;
 use ranges::Verdict;
 use rules::Refusal;
