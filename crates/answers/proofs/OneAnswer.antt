@@ -66,7 +66,9 @@ use Rattle.response_lines.specs.Promises.{OneLine as OneRow, Printing as RowPri
 use Rattle.response_lines.specs.declared.Cursor.{Cursor as RowCursor}
 use Rattle.response_lines.specs.declared.Made.{Made as RowMade}
 use Rattle.response_lines.specs.declared.Made.the-variants as row
-use Rattle.printing.specs.Promises.{PrintScheduleIs, PrintResponseIs}
+use Rattle.refusal_printing.specs.Promises.{PrintRefusalIs}
+use Rattle.schedule_printing.specs.Promises.{PrintScheduleIs}
+use Rattle.response_printing.specs.Promises.{PrintResponseIs}
 
 -- ---- no two cases of an enum have the same number and values
 taken : {A : Type 0} {x y : A} → some x ≡ some y → x ≡ y
@@ -310,6 +312,9 @@ pub response-line-one : (t : Table) (k : Tasks) (c : RowCursor) (buffer : List �
     → ResponseLineIs t k c buffer r x → ResponseLineIs t k c buffer s y → (r ≡ s) × (x ≡ y)
 response-line-one t k c buffer r s x y p q =
     (row-made-injective r s (ap (λ (z : RowPrinting). z .says) (p ∙ sym q)), ap (λ (z : RowPrinting). z .buffer) (p ∙ sym q))
+
+pub print-refusal-one : (why : Refusal) (r s : ℕ) → PrintRefusalIs why r → PrintRefusalIs why s → r ≡ s
+print-refusal-one why r s p q = p ∙ sym q
 
 pub print-schedule-one : (file : List ℕ) (r s : ℕ) → PrintScheduleIs file r → PrintScheduleIs file s → r ≡ s
 print-schedule-one file r s p q = p ∙ sym q

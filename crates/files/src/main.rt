@@ -1,7 +1,7 @@
 // Runs both printers over the files that its arguments name: for each its name, its schedule and its response times.
 use libc::STDOUT_FILENO;
-use printing::print_response;
-use printing::print_schedule;
+use response_printing::print_response;
+use schedule_printing::print_schedule;
 
 fn text(words: &[u8]) {
     io::write_all(STDOUT_FILENO, words);

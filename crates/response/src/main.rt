@@ -1,7 +1,7 @@
 // The response printer as a program: a meter file on standard input, the response times of its tasks on standard output.
 use libc::STDIN_FILENO;
 use libc::STDOUT_FILENO;
-use printing::print_response;
+use response_printing::print_response;
 
 fn main() {
     // A byte more than a file may have, so that a longer one is noticed, and refused.

@@ -1,7 +1,7 @@
 // The schedule printer as a program: a meter file on standard input, its schedule on standard output.
 use libc::STDIN_FILENO;
 use libc::STDOUT_FILENO;
-use printing::print_schedule;
+use schedule_printing::print_schedule;
 
 fn main() {
     // A byte more than a file may have, so that a longer one is noticed, and refused.

@@ -2,10 +2,10 @@ use lib.ListN.{replicate}
 use mathlib.Core.Path.{sym}
 use native.Mathlib.Nat.{le-refl}
 use lib.Seq.{length-take-le}
-use Rattle.printing.proofs.Schedule.{never-short, refusal-counted, refusal-within}
+use Rattle.refusal_printing.proofs.Refusals.{never-short, refusal-counted, refusal-within}
 use borrow.Author.Needs.{needs}
-use Rattle.printing.proofs.print_refusal.Statement.{statement}
-use Rattle.printing.proofs.print_refusal.Tie as tie
+use Rattle.refusal_printing.proofs.print_refusal.Statement.{statement}
+use Rattle.refusal_printing.proofs.print_refusal.Tie as tie
 
 slice-aggregate-write-line : tie.Need-slice-aggregate-write-line
 slice-aggregate-write-line c = search needs

@@ -3,10 +3,7 @@ use Prim.Native.Nat.{ℕ}
 use mathlib.Core.Path.{_≡_}
 use mathlib.Core.List.{List}
 use lib.ListN.{length}
-use Rattle.file_rules.specs.Printers.{scheduleOutput, responseOutput}
-
-abbrev pub PrintScheduleIs : List ℕ → ℕ → Type 0
-PrintScheduleIs file r = r ≡ length (scheduleOutput file)
+use Rattle.file_rules.specs.Printers.{responseOutput}
 
 abbrev pub PrintResponseIs : List ℕ → ℕ → Type 0
 PrintResponseIs file r = r ≡ length (responseOutput file)

@@ -1,8 +1,8 @@
 use mathlib.Core.Path.{sym}
 use lib.Seq.{length-take-le}
 use borrow.Author.Needs.{needs}
-use Rattle.printing.proofs.with_room.Statement.{statement}
-use Rattle.printing.proofs.with_room.Tie as tie
+use Rattle.schedule_printing.proofs.with_room.Statement.{statement}
+use Rattle.schedule_printing.proofs.with_room.Tie as tie
 
 returns : tie.Need-returns
 returns c = search needs

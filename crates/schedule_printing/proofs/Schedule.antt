@@ -4,7 +4,7 @@ use mathlib.Core.Path.{_≡_, sym, _∙_, ap, subst}
 use mathlib.Core.List.{List, _++_}
 use native.Mathlib.Nat.{zero-add}
 use native.Mathlib.Omega.{arith}
-use lib.ListN.{length, take, drop, length-append, length-drop}
+use lib.ListN.{length, take, drop, length-drop}
 use lib.Seq.{length-take-le}
 use Rattle.rules.specs.Refusals.{Refused, refusedAs}
 use Rattle.file_rules.specs.Printers.{refusedLine, scheduleOutput}
@@ -16,13 +16,7 @@ use Rattle.scheduler.specs.States.{pairs}
 use Rattle.scheduler.specs.Promises.{FreshIs}
 use Rattle.scheduler.specs.declared.State.{State}
 use Rattle.scheduler.specs.declared.Changed.{Changed}
-use Rattle.lines.specs.Lines.{bytesOf, longestLine, writtenAs}
-use Rattle.lines.specs.Promises.{WriteLineIs}
-use Rattle.lines.specs.declared.Line.the-variants as line
-use Rattle.lines.specs.declared.Written.{Written}
-use Rattle.lines.specs.declared.Written.the-variants as written
-use Rattle.lines.proofs.Longest.{no-longer}
-use Rattle.lines.proofs.Calls.{always-written}
+use Rattle.lines.specs.Lines.{longestLine}
 use Rattle.schedule_lines.specs.Promises.{OneLine, madeAs, ScheduleLineIs}
 use Rattle.schedule_lines.specs.declared.Cursor.{Cursor}
 use Rattle.schedule_lines.specs.declared.Cursor.the-variants as cursor
@@ -30,10 +24,10 @@ use Rattle.schedule_lines.specs.declared.Next.{Next}
 use Rattle.schedule_lines.specs.declared.Next.the-variants as next
 use Rattle.schedule_lines.specs.declared.Made.the-variants as made
 use Rattle.schedule_lines.specs.declared.Printed.{Printed}
-use Rattle.printing.proofs.Counting.{split-off}
+use Rattle.outputs.proofs.Counting.{split-off}
 use Rattle.whole_file.specs.Promises.{JudgeFileIs}
 use Rattle.whole_file.specs.declared.MeterFile.{MeterFile}
-use Rattle.printing.specs.Promises.{PrintScheduleIs}
+use Rattle.schedule_printing.specs.Promises.{PrintScheduleIs}
 use Rattle.outputs.proofs.JudgedFile.{output-refused, output-good}
 use Rattle.outputs.specs.ScheduleCalls.{Call}
 use Rattle.outputs.specs.ScheduleMoments.{Moment, toWrite, At, left}
@@ -130,35 +124,6 @@ module _ (file : List ℕ) (t : Table) (total : ℕ) where
         go (on bytes then m l d f g h) = never-both (sym d ∙ ap madeAs e)
         go (over bytes m d f g) = never-both (sym d ∙ ap madeAs e)
         go (out i d g) = ap (λ (x : Refused). sent + length (refusedLine x)) (refused-as (sym (ap madeAs e) ∙ d)) ∙ ap (λ (xs : List ℕ). sent + length xs) (sym g) ∙ here .sum
-
--- ---- the line of a refusal
-module _ (q : Refusal) (buffer : List ℕ) (room : 64 ≤ length buffer) (r : Written) (last : List ℕ) (is : WriteLineIs (line.Refused q) buffer r last) where
-  pub never-short : {A : Type 0} (p : Refusal) → r ≡ written.Refused p → A
-  never-short p e = bytes-or-refused (sym (always-written (line.Refused q) buffer r last room is .0) ∙ e)
-    where
-      bytes-or-refused : {A : Type 0} {n : ℕ} → written.Bytes n ≡ written.Refused p → A
-      bytes-or-refused {A} {n} d = never-both (ap writtenAs d)
-
-  pub refusal-counted : (n : ℕ) → r ≡ written.Bytes n → n ≡ length (refusedLine (refusedAs q))
-  unfolding bytesOf
-  refusal-counted n e = same (sym e ∙ always-written (line.Refused q) buffer r last room is .0)
-    where
-      same : {m k : ℕ} → written.Bytes m ≡ written.Bytes k → m ≡ k
-      same d = cc
-
-  pub refusal-short : (n : ℕ) → r ≡ written.Bytes n → n ≤ 64
-  unfolding bytesOf
-  refusal-short n e = subst (λ (x : ℕ). x ≤ 64) (sym (refusal-counted n e)) (no-longer (line.Refused q))
-
-  pub refusal-within : (n : ℕ) → r ≡ written.Bytes n → n ≤ length last
-  refusal-within n e =
-      let said = always-written (line.Refused q) buffer r last room is in
-      let whole = ap length (said .1) ∙ length-append (bytesOf (line.Refused q)) (drop (length (bytesOf (line.Refused q))) buffer) in
-      let count : n ≡ length (bytesOf (line.Refused q)) = same (sym e ∙ said .0) in
-      omega (arith, whole, count)
-    where
-      same : {m k : ℕ} → written.Bytes m ≡ written.Bytes k → m ≡ k
-      same d = cc
 
 -- ---- the loop begins, and is within its buffer
 pub run-begins : (file : List ℕ) (t : Table) (start : State) (events : ℕ) (buffer : List ℕ) → length buffer ≡ 4096 → Moment file t (pairs start) events 0

@@ -1,9 +1,9 @@
-use Rattle.printing.proofs.Response.{response-refused, response-counted}
+use Rattle.response_printing.proofs.Response.{response-refused, response-counted}
 use Rattle.outputs.proofs.Response.{first-rows}
 use mathlib.Core.Path.{refl}
 use borrow.Author.Needs.{needs}
-use Rattle.printing.proofs.print_response.Statement.{statement}
-use Rattle.printing.proofs.print_response.Tie as tie
+use Rattle.response_printing.proofs.print_response.Statement.{statement}
+use Rattle.response_printing.proofs.print_response.Tie as tie
 
 judge-file-requires : tie.Need-judge-file-requires
 judge-file-requires c κs = search needs

@@ -6,10 +6,10 @@ use lib.ListN.{length}
 use lib.Seq.{length-take-le}
 use Rattle.response_lines.specs.declared.Cursor.the-variants.{Header}
 use Rattle.outputs.specs.ResponseMoments.{rowsToWrite, rowsLeft}
-use Rattle.printing.proofs.Response.{Rows, rows-within, never-refused, counted, rows-begin}
+use Rattle.response_printing.proofs.Response.{Rows, rows-within, never-refused, counted, rows-begin}
 use borrow.Author.Needs.{needs}
-use Rattle.printing.proofs.print_rows.Statement.{statement}
-use Rattle.printing.proofs.print_rows.Tie as tie
+use Rattle.response_printing.proofs.print_rows.Statement.{statement}
+use Rattle.response_printing.proofs.print_rows.Tie as tie
 
 abbrev Inv-loop : tie.InvT-loop
 Inv-loop fd t tasks out₀ cursor₀ used₀ out cursor used = (Rows t tasks (length (rowsToWrite t tasks Header)) cursor used out) × (length (rowsToWrite t tasks Header) ≤ 4224)

@@ -1,9 +1,9 @@
-use Rattle.printing.proofs.Schedule.{schedule-refused, schedule-counted}
+use Rattle.schedule_printing.proofs.Schedule.{schedule-refused, schedule-counted}
 use Rattle.outputs.proofs.Schedule.{start-moment}
 use mathlib.Core.Path.{refl}
 use borrow.Author.Needs.{needs}
-use Rattle.printing.proofs.print_schedule.Statement.{statement}
-use Rattle.printing.proofs.print_schedule.Tie as tie
+use Rattle.schedule_printing.proofs.print_schedule.Statement.{statement}
+use Rattle.schedule_printing.proofs.print_schedule.Tie as tie
 
 judge-file-requires : tie.Need-judge-file-requires
 judge-file-requires c κs = search needs

@@ -1,6 +1,6 @@
 use Prim.Native.Nat.{_+_}
 use mathlib.Core.Path.{ap, _∙_}
-use Rattle.printing.proofs.Schedule.{run-begins, within}
+use Rattle.schedule_printing.proofs.Schedule.{run-begins, within}
 use native.Mathlib.Omega.{arith}
 use Prim.Native.Nat.{_≤_}
 use mathlib.Core.Path.{sym}
@@ -10,10 +10,10 @@ use lib.Seq.{length-take-le}
 use Rattle.scheduler.specs.States.{pairs}
 use Rattle.schedule_lines.specs.declared.Cursor.the-variants.{Header}
 use Rattle.outputs.specs.ScheduleMoments.{toWrite, left}
-use Rattle.printing.proofs.Schedule.{Running, counted, refused-counted}
+use Rattle.schedule_printing.proofs.Schedule.{Running, counted, refused-counted}
 use borrow.Author.Needs.{needs}
-use Rattle.printing.proofs.print_lines.Statement.{statement}
-use Rattle.printing.proofs.print_lines.Tie as tie
+use Rattle.schedule_printing.proofs.print_lines.Statement.{statement}
+use Rattle.schedule_printing.proofs.print_lines.Tie as tie
 
 abbrev Inv-loop : tie.InvT-loop
 Inv-loop fd file t events out₀ state₀ cursor₀ used₀ sent₀ out state cursor used sent = (Running file t (length (toWrite file t (pairs state₀) (Header events))) state cursor used sent out) × (length (toWrite file t (pairs state₀) (Header events)) ≤ 4194432)

@@ -23,10 +23,10 @@ use Rattle.response_lines.specs.declared.Next.{Next}
 use Rattle.response_lines.specs.declared.Next.the-variants as next
 use Rattle.response_lines.specs.declared.Made.{Made}
 use Rattle.response_lines.specs.declared.Made.the-variants as made
-use Rattle.printing.proofs.Counting.{split-off}
+use Rattle.outputs.proofs.Counting.{split-off}
 use Rattle.whole_file.specs.Promises.{JudgeFileIs}
 use Rattle.whole_file.specs.declared.MeterFile.{MeterFile}
-use Rattle.printing.specs.Promises.{PrintResponseIs}
+use Rattle.response_printing.specs.Promises.{PrintResponseIs}
 use Rattle.outputs.proofs.JudgedFile.{output-refused, output-good}
 use Rattle.outputs.specs.ResponseCalls.{Call}
 use Rattle.outputs.specs.ResponseMoments.{rowsLeft, rowsToWrite, RowAt}

@@ -1,0 +1,2 @@
+-- the line in its buffer, counted
+pub mod Refusals

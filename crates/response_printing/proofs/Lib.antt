@@ -1,0 +1,2 @@
+-- the rows of the response times, counted
+pub mod Response

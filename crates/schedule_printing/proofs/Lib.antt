@@ -1,0 +1,2 @@
+-- the lines of a schedule, counted
+pub mod Schedule
