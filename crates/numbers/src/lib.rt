@@ -145,10 +145,10 @@ pub fn length_numbers(length: Length) -> Lasting
     ensures { λ r. ⌜ LastingIs length r ⌝ }
 {
     match length {
-        Length::Within(ticks) => Lasting {
+        Length::Within(w) => Lasting {
             refusal: unrefused(),
             within: 1,
-            ticks,
+            ticks: w,
         },
         Length::Over => Lasting {
             refusal: unrefused(),
