@@ -22,16 +22,16 @@ use Rattle.numbers.specs.declared.WeightNumbers.{WeightNumbers}
 
 -- ---- over a table alone
 -- admission: refusal 1
-abbrev pub AdmissionNumbersAre : Table → Tested → Type 0
-AdmissionNumbersAre t r = r ≡ testNumbers (admissionSays t)
+abbrev pub AdmissionInNumbers : Table → Tested → Type 0
+AdmissionInNumbers t r = r ≡ testNumbers (admissionSays t)
 
 -- R of partition h: refusal 1
-abbrev pub PartitionResponseNumbersAre : Table → ℕ → Lasting → Type 0
-PartitionResponseNumbersAre t h r = r ≡ lengthNumbers (responseSays t h)
+abbrev pub PartitionResponseInNumbers : Table → ℕ → Lasting → Type 0
+PartitionResponseInNumbers t h r = r ≡ lengthNumbers (responseSays t h)
 
 -- the response of task i: refusals 1 and 9
-abbrev pub TaskResponseNumbersAre : Table → Tasks → ℕ → Responded → Type 0
-TaskResponseNumbersAre t k i r = r ≡ responseNumbers (taskResponseSays t k i)
+abbrev pub TaskResponseInNumbers : Table → Tasks → ℕ → Responded → Type 0
+TaskResponseInNumbers t k i r = r ≡ responseNumbers (taskResponseSays t k i)
 
 -- ---- over a table and a state
 -- what a run says of the state after it
@@ -40,30 +40,30 @@ ranChange r = record { after = r .after; refused = r .refused }
 
 module _ (t : Table) (s : State) where
   -- fresh start: refusals 1 and 2
-  abbrev pub FreshNumbersAre : After → Type 0
-  FreshNumbersAre r = r ≡ changeNumbers (freshSays t s)
+  abbrev pub FreshInNumbers : After → Type 0
+  FreshInNumbers r = r ≡ changeNumbers (freshSays t s)
 
   -- the standing test: refusals 1 and 3
-  abbrev pub StandingNumbersAre : Tested → Type 0
-  StandingNumbersAre r = r ≡ testNumbers (standingSays t (s .b) (s .o))
+  abbrev pub StandingInNumbers : Tested → Type 0
+  StandingInNumbers r = r ≡ testNumbers (standingSays t (s .b) (s .o))
 
   -- the busy length of partition h with inversion w: refusals 1 and 3
-  abbrev pub BusyLengthNumbersAre : ℕ → ℕ → Lasting → Type 0
-  BusyLengthNumbersAre h w r = r ≡ lengthNumbers (busyTestSays t (s .b) (s .o) h w)
+  abbrev pub BusyLengthInNumbers : ℕ → ℕ → Lasting → Type 0
+  BusyLengthInNumbers h w r = r ≡ lengthNumbers (busyTestSays t (s .b) (s .o) h w)
 
   -- the candidates: refusals 1 and 3
-  abbrev pub CandidatesNumbersAre : ListNumbers → Type 0
-  CandidatesNumbersAre r = r ≡ listNumbers (candidatesSay t (s .b) (s .o))
+  abbrev pub CandidatesInNumbers : ListNumbers → Type 0
+  CandidatesInNumbers r = r ≡ listNumbers (candidatesSay t (s .b) (s .o))
 
   -- the weights beside them: refusals 1 and 3
-  abbrev pub WeightsNumbersAre : WeightNumbers → Type 0
-  WeightsNumbersAre r = r ≡ weightNumbers (weightsSay t (s .b) (s .o))
+  abbrev pub WeightsInNumbers : WeightNumbers → Type 0
+  WeightsInNumbers r = r ≡ weightNumbers (weightsSay t (s .b) (s .o))
 
   -- one decision, by the first of the words: refusals 1, 3 and 4
-  abbrev pub DecideNumbersAre : List ℕ → Picked → Type 0
-  DecideNumbersAre words r = r ≡ pickNumbers (decideSays t (s .b) (s .o) words)
+  abbrev pub DecideInNumbers : List ℕ → Picked → Type 0
+  DecideInNumbers words r = r ≡ pickNumbers (decideSays t (s .b) (s .o) words)
 
   -- a run over the words into the buffer, which is `last` after it: refusals 1, 3 and 7
-  pub record RunNumbersAre (words buffer : List ℕ) (r : After) (last : List ℕ) : Type 0 where
+  pub record RunInNumbers (words buffer : List ℕ) (r : After) (last : List ℕ) : Type 0 where
     pub answer : r ≡ changeNumbers (ranChange (runSays t s words buffer))
     pub lent : last ≡ runSays t s words buffer .buffer

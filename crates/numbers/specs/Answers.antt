@@ -1,4 +1,4 @@
--- How what a call says is written in numbers: a refusal's two numbers, and then its values, which are 0 where it is refused.
+-- How what a call says is written in numbers: a refusal's two numbers, and then its values, which are 0 where it is refused, while a state is then the one that was given.
 use Prim.Native.Nat.{ℕ}
 use mathlib.Core.Option.{Option, some, none}
 use Rattle.rules.specs.Numbers.{Pairs}

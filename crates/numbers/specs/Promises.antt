@@ -27,20 +27,20 @@ use Rattle.numbers.specs.declared.WeightNumbers.{WeightNumbers}
 use Rattle.numbers.specs.declared.Turned.{Turned}
 
 -- ---- an answer in numbers
-abbrev pub TestedIs : Test → Tested → Type 0
-TestedIs test r = r ≡ testNumbers (testAs test)
+abbrev pub TestNumbersAre : Test → Tested → Type 0
+TestNumbersAre test r = r ≡ testNumbers (testAs test)
 
-abbrev pub LastingIs : Length → Lasting → Type 0
-LastingIs length r = r ≡ lengthNumbers (lengthAs length)
+abbrev pub LengthNumbersAre : Length → Lasting → Type 0
+LengthNumbersAre length r = r ≡ lengthNumbers (lengthAs length)
 
-abbrev pub RespondedIs : Response → Responded → Type 0
-RespondedIs response r = r ≡ responseNumbers (responseAs response)
+abbrev pub ResponseNumbersAre : Response → Responded → Type 0
+ResponseNumbersAre response r = r ≡ responseNumbers (responseAs response)
 
-abbrev pub PickedIs : Decision → Picked → Type 0
-PickedIs decision r = r ≡ pickNumbers (decisionAs decision)
+abbrev pub PickNumbersAre : Decision → Picked → Type 0
+PickNumbersAre decision r = r ≡ pickNumbers (decisionAs decision)
 
-abbrev pub AfterIs : Changed → After → Type 0
-AfterIs changed r = r ≡ changeNumbers (changedAs changed)
+abbrev pub ChangeNumbersAre : Changed → After → Type 0
+ChangeNumbersAre changed r = r ≡ changeNumbers (changedAs changed)
 
 abbrev pub ListNumbersAre : Listed → ListNumbers → Type 0
 ListNumbersAre listed r = r ≡ listNumbers (listedAs listed)

@@ -1,10 +1,10 @@
-// The answers of the calls as plain numbers, for C. Each begins with a refusal's two numbers; where a call is refused, every value after them is 0.
+// The answers of the calls as plain numbers, for C. Each begins with a refusal's two numbers. Where a call is refused, every value after them is 0, and a state is the one that was given.
 ghost use mathlib.Core.Path.{_≡_};
 ghost use mathlib.Core.Option.{some, none};
 ghost use Rattle.rules.specs.Refusals.{refusedAs};
 ghost use Rattle.ranges.specs.Verdicts.{verdictAs};
 ghost use Rattle.numbers.specs.Answers.{refusalNumbers};
-ghost use Rattle.numbers.specs.Promises.{TestedIs, LastingIs, RespondedIs, PickedIs, AfterIs, ListNumbersAre, WeightNumbersAre, TurnIs, TurnForIs, ReleasedIs};
+ghost use Rattle.numbers.specs.Promises.{TestNumbersAre, LengthNumbersAre, ResponseNumbersAre, PickNumbersAre, ChangeNumbersAre, ListNumbersAre, WeightNumbersAre, TurnIs, TurnForIs, ReleasedIs};
 use candidates::Listed;
 use draw::Decision;
 use draw::Weighed;
@@ -119,7 +119,7 @@ fn verdict_numbers(verdict: Verdict) -> RefusalNumbers
 
 // A test of all partitions in numbers.
 pub fn test_numbers(test: Test) -> Tested
-    ensures { λ r. ⌜ TestedIs test r ⌝ }
+    ensures { λ r. ⌜ TestNumbersAre test r ⌝ }
 {
     match test {
         Test::Passes => Tested {
@@ -142,7 +142,7 @@ pub fn test_numbers(test: Test) -> Tested
 
 // A length in numbers.
 pub fn length_numbers(length: Length) -> Lasting
-    ensures { λ r. ⌜ LastingIs length r ⌝ }
+    ensures { λ r. ⌜ LengthNumbersAre length r ⌝ }
 {
     match length {
         Length::Within(w) => Lasting {
@@ -165,7 +165,7 @@ pub fn length_numbers(length: Length) -> Lasting
 
 // A response in numbers.
 pub fn response_numbers(response: Response) -> Responded
-    ensures { λ r. ⌜ RespondedIs response r ⌝ }
+    ensures { λ r. ⌜ ResponseNumbersAre response r ⌝ }
 {
     match response {
         Response::Ticks(ticks) => Responded {
@@ -181,7 +181,7 @@ pub fn response_numbers(response: Response) -> Responded
 
 // A pick in numbers.
 pub fn pick_numbers(decision: Decision) -> Picked
-    ensures { λ r. ⌜ PickedIs decision r ⌝ }
+    ensures { λ r. ⌜ PickNumbersAre decision r ⌝ }
 {
     match decision {
         Decision::Pick(pick) => Picked {
@@ -197,7 +197,7 @@ pub fn pick_numbers(decision: Decision) -> Picked
 
 // A state after a call in numbers.
 pub fn change_numbers(changed: Changed) -> After
-    ensures { λ r. ⌜ AfterIs changed r ⌝ }
+    ensures { λ r. ⌜ ChangeNumbersAre changed r ⌝ }
 {
     let state = changed.state;
     let verdict = changed.verdict;
