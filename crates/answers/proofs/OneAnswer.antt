@@ -11,7 +11,8 @@ use Rattle.laws.proofs.Tests.{none-is-some, some-is-none}
 use Rattle.laws.proofs.Refusals.{refused-injective}
 use Rattle.ranges.specs.Verdicts.{verdictAs}
 use Rattle.ranges.proofs.Outcomes.{refused-as, given-as, never-both}
-use Rattle.ranges.specs.Promises.{JudgeTableIs, JudgeIndexIs, JudgeStateIs, JudgeIs}
+use Rattle.ranges.specs.Promises.{NumbersAre, JudgeTableIs, JudgeIndexIs, JudgeStateIs, JudgeIs}
+use Rattle.ranges.specs.declared.Numbered.{Numbered}
 use Rattle.ranges.specs.declared.Verdict.{Verdict}
 use Rattle.ranges.specs.declared.Verdict.the-variants as verdict
 use Rattle.tasks.specs.Promises.{JudgeTasksIs, JudgeTaskIs}
@@ -188,6 +189,9 @@ printed-injective r s x y e =
     λ i. record { state = record { b = e i .after .b; o = e i .after .o }; made = made-injective (r .made) (s .made) (ap (λ (z : Printing). z .says) e) i }
 
 -- ---- the theorems, crate by crate
+pub numbers-one : (why : Refusal) (r s : Numbered) → NumbersAre why r → NumbersAre why s → r ≡ s
+numbers-one why r s p q = λ i. record { number = (p .0 ∙ sym (q .0)) i; second = (p .1 ∙ sym (q .1)) i }
+
 module _ (n : ℕ) (T B phase b o : List ℕ) where
   pub judge-table-one : (r s : Verdict) → JudgeTableIs n T B phase r → JudgeTableIs n T B phase s → r ≡ s
   judge-table-one r s p q = verdict-injective r s (p ∙ sym q)

@@ -1,4 +1,4 @@
--- What each public function of this crate promises of its answer r.
+-- What each public function of this crate says, and promises of its answer r.
 use Prim.Native.Nat.{ℕ}
 use mathlib.Core.Path.{_≡_}
 use mathlib.Core.Bool.{Bool, cond}
@@ -48,7 +48,10 @@ listing none xs = record { list = padded places xs; length = length xs; refused 
 listing (some r) xs = record { list = padded places []; length = 0; refused = some r }
 
 -- the candidate list: refusals 1 and 3
-abbrev pub CandidatesIs : Table → List ℕ → List ℕ → Listed → Type 0
-CandidatesIs t b o r =
-    listedAs r ≡ listing (refusal (badTable (t .count) (t .period) (t .budget) (t .phase) ∷ badState (t .count) (t .period) (t .budget) b o ∷ []))
+abbrev pub candidatesSay : Table → List ℕ → List ℕ → Listing
+candidatesSay t b o =
+    listing (refusal (badTable (t .count) (t .period) (t .budget) (t .phase) ∷ badState (t .count) (t .period) (t .budget) b o ∷ []))
     (candidates (t .count) (t .period) (t .budget) b o inversion)
+
+abbrev pub CandidatesIs : Table → List ℕ → List ℕ → Listed → Type 0
+CandidatesIs t b o r = listedAs r ≡ candidatesSay t b o

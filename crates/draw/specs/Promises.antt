@@ -1,4 +1,4 @@
--- What each public function of this crate promises of its answer r.
+-- What each public function of this crate says, and promises of its answer r.
 use Prim.Native.Nat.{ℕ}
 use mathlib.Core.Path.{_≡_}
 use mathlib.Core.Bool.{cond}
@@ -39,10 +39,13 @@ weighing none cs xs = record { list = padded places cs; weights = padded places 
 weighing (some r) cs xs = record { list = padded places []; weights = padded places []; length = 0; refused = some r }
 
 -- the weights beside the candidates: refusals 1 and 3
-abbrev pub WeightsAre : Table → List ℕ → List ℕ → Weighed → Type 0
-WeightsAre t b o r =
-    weighedAs r ≡ weighing (refusal (badTable (t .count) (t .period) (t .budget) (t .phase) ∷ badState (t .count) (t .period) (t .budget) b o ∷ []))
+abbrev pub weightsSay : Table → List ℕ → List ℕ → Weighing
+weightsSay t b o =
+    weighing (refusal (badTable (t .count) (t .period) (t .budget) (t .phase) ∷ badState (t .count) (t .period) (t .budget) b o ∷ []))
     (candidates (t .count) (t .period) (t .budget) b o inversion) (weights (t .count) (t .period) (t .budget) b o inversion)
+
+abbrev pub WeightsAre : Table → List ℕ → List ℕ → Weighed → Type 0
+WeightsAre t b o r = weighedAs r ≡ weightsSay t b o
 
 -- a decision: the pick as a number; or refused
 abbrev pub decisionAs : Decision → Outcome ℕ
@@ -50,7 +53,10 @@ decisionAs (decided.Pick pick) = gives pick
 decisionAs (decided.Refused r) = refused (refusedAs r)
 
 -- one decision, by the first of the words: refusals 1, 3 and 4
-abbrev pub DecideIs : Table → List ℕ → List ℕ → List ℕ → Decision → Type 0
-DecideIs t b o words r =
-    decisionAs r ≡ unlessRefused (refusal (badTable (t .count) (t .period) (t .budget) (t .phase) ∷ badState (t .count) (t .period) (t .budget) b o ∷ noWord words ∷ []))
+abbrev pub decideSays : Table → List ℕ → List ℕ → List ℕ → Outcome ℕ
+decideSays t b o words =
+    unlessRefused (refusal (badTable (t .count) (t .period) (t .budget) (t .phase) ∷ badState (t .count) (t .period) (t .budget) b o ∷ noWord words ∷ []))
     (decision (t .count) (t .period) (t .budget) b o (words ! 0))
+
+abbrev pub DecideIs : Table → List ℕ → List ℕ → List ℕ → Decision → Type 0
+DecideIs t b o words r = decisionAs r ≡ decideSays t b o words

@@ -5,10 +5,10 @@ ghost use mathlib.Core.Path.{_≡_};
 ghost use lib.ListN.{length};
 ghost use Rattle.basis.specs.Reckoned.{Reckoned};
 ghost use Rattle.file_rules.specs.Printers.{decimal, pickText, responseText};
-ghost use Rattle.rules.specs.Refusals.{refusedAs};
 ghost use Rattle.lines.specs.Lines.{bytesOf};
 ghost use Rattle.lines.specs.Fields.{firstText, laterText, lineOf, Put};
 ghost use Rattle.lines.specs.Promises.{LineLengthIs, WriteLineIs};
+use ranges::numbers;
 use rules::Refusal;
 
 // A line of a printer: what its fields are.
@@ -53,9 +53,6 @@ enum Later {
 
 // The fields of a line, in order, as many as it has.
 struct Fields(First, Later, Later, Later);
-
-// A refusal's number and its second number.
-struct Numbers(u64, usize);
 
 // How many digits a number has.
 fn digits(n: u64) -> usize
@@ -206,23 +203,6 @@ fn response_field(ticks: u64) -> Later
     Later::Number(ticks)
 }
 
-// A refusal by its numbers.
-fn numbered(refusal: Refusal) -> Numbers
-    ensures { λ r. ⌜ (r .0 ≡ refusedAs refusal .number) × (r .1 ≡ refusedAs refusal .second) ⌝ }
-{
-    match refusal {
-        Refusal::BadPartition(index) => Numbers(1, index),
-        Refusal::NotAdmitted(partition) => Numbers(2, partition),
-        Refusal::BadPair(index) => Numbers(3, index),
-        Refusal::NoWord => Numbers(4, 0),
-        Refusal::NotListed(pick) => Numbers(5, pick),
-        Refusal::NotActive(index) => Numbers(6, index),
-        Refusal::ShortBuffer(needed) => Numbers(7, needed),
-        Refusal::BadRecord(offset) => Numbers(8, offset),
-        Refusal::BadTask(index) => Numbers(9, index),
-    }
-}
-
 // A line as its fields.
 fn fields_of(line: Line) -> Fields
     ensures { λ r. ⌜ lineOf r ≡ bytesOf line ⌝ }
@@ -243,9 +223,14 @@ fn fields_of(line: Line) -> Fields
         }
         Line::End(count) => Fields(First::End, Later::Number(count), none, none),
         Line::Refused(refusal) => {
-            let n = numbered(refusal);
-            let number = Later::Number(n.0);
-            Fields(First::Refused, number, Later::At, Later::Number(n.1 as u64))
+            let n = numbers(refusal);
+            let number = Later::Number(n.number as u64);
+            Fields(
+                First::Refused,
+                number,
+                Later::At,
+                Later::Number(n.second as u64),
+            )
         }
     }
 }

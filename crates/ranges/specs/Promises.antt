@@ -1,10 +1,16 @@
--- What each public function of this crate promises of its verdict r: 01's refusal, or none.
+-- What each public function of this crate promises of its answer r: 01's refusal, or none.
 use Prim.Native.Nat.{ℕ}
 use mathlib.Core.Path.{_≡_}
 use mathlib.Core.List.{List, [], _∷_}
-use Rattle.rules.specs.Refusals.{badTable, badTableOrIndex, badState, refusal}
+use Rattle.rules.specs.Refusals.{refusedAs, badTable, badTableOrIndex, badState, refusal}
+use Rattle.rules.specs.declared.Refusal.{Refusal}
 use Rattle.ranges.specs.Verdicts.{verdictAs}
+use Rattle.ranges.specs.declared.Numbered.{Numbered}
 use Rattle.ranges.specs.declared.Verdict.{Verdict}
+
+-- a refusal's number, and its second
+abbrev pub NumbersAre : Refusal → Numbered → Type 0
+NumbersAre why r = (r .number ≡ refusedAs why .number) × (r .second ≡ refusedAs why .second)
 
 module _ (n : ℕ) (T B : List ℕ) where
   -- refusal 1

@@ -1,4 +1,4 @@
--- What each public function of this crate promises of its answer r, the state after it, and lent memory.
+-- What each public function of this crate says, and promises of its answer r, the state after it, and lent memory.
 use Prim.Native.Nat.{ℕ}
 use mathlib.Core.Path.{_≡_}
 use mathlib.Core.List.{List, [], _∷_, _++_}
@@ -52,17 +52,23 @@ runs (some r) before buffer ran = record { after = before; refused = some r; buf
 -- ---- promises
 module _ (t : Table) (s : State) where
   -- one decision and its tick: refusals 1 and 3
-  abbrev pub StepIs : ℕ → Stepped → Type 0
-  StepIs word r =
-      steppedAs r ≡ stepped (refusal (table t s ∷ state t s ∷ [])) (pairs s)
+  abbrev pub stepSays : ℕ → Step
+  stepSays word =
+      stepped (refusal (table t s ∷ state t s ∷ [])) (pairs s)
       (tick (t .count) (t .period) (t .budget) (s .b) (s .o) (decision (t .count) (t .period) (t .budget) (s .b) (s .o) word))
       (decision (t .count) (t .period) (t .budget) (s .b) (s .o) word)
 
+  abbrev pub StepIs : ℕ → Stepped → Type 0
+  StepIs word r = steppedAs r ≡ stepSays word
+
   -- a run over the words into the buffer, which is `last` after it: refusals 1, 3 and 7
-  abbrev pub RunIs : List ℕ → List ℕ → Changed → List ℕ → Type 0
-  RunIs words buffer r last =
-      ranAs r last ≡ runs (refusal (table t s ∷ state t s ∷ shortBuffer (length words) (length buffer) ∷ [])) (pairs s) buffer
+  abbrev pub runSays : List ℕ → List ℕ → Runs
+  runSays words buffer =
+      runs (refusal (table t s ∷ state t s ∷ shortBuffer (length words) (length buffer) ∷ [])) (pairs s) buffer
       (run (t .count) (t .period) (t .budget) (pairs s) words)
+
+  abbrev pub RunIs : List ℕ → List ℕ → Changed → List ℕ → Type 0
+  RunIs words buffer r last = ranAs r last ≡ runSays words buffer
 
 -- what the loop of a run gives
 pub record Filled (n : ℕ) (T B : List ℕ) (s : State) (words buffer : List ℕ) (r : State) (last : List ℕ) : Type 0 where

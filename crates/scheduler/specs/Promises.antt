@@ -1,4 +1,4 @@
--- What each public function of this crate promises of its answer r and the state after it.
+-- What each public function of this crate says, and promises of its answer r and the state after it.
 use Prim.Native.Nat.{ℕ}
 use mathlib.Core.Path.{_≡_}
 use mathlib.Core.List.{List, [], _∷_}
@@ -38,10 +38,13 @@ change (some r) before after = kept before r
 
 -- ---- promises
 -- fresh start, whatever the old state: refusals 1 and 2
-abbrev pub FreshIs : Table → State → Changed → Type 0
-FreshIs t s r =
-    changedAs r ≡ change (refusal (badTable (t .count) (t .period) (t .budget) (t .phase) ∷ notAdmitted (t .count) (t .period) (t .budget) ∷ []))
+abbrev pub freshSays : Table → State → Change
+freshSays t s =
+    change (refusal (badTable (t .count) (t .period) (t .budget) (t .phase) ∷ notAdmitted (t .count) (t .period) (t .budget) ∷ []))
     (pairs s) (freshStart (t .count) (t .period) (t .budget) (t .phase))
+
+abbrev pub FreshIs : Table → State → Changed → Type 0
+FreshIs t s r = changedAs r ≡ freshSays t s
 
 -- the tick itself, over the table's arrays
 abbrev pub TickedIs : ℕ → List ℕ → List ℕ → State → ℕ → State → Type 0
@@ -60,11 +63,17 @@ module _ (t : Table) (s : State) where
   JudgedIs r = verdictAs r ≡ refusal (table ∷ state ∷ [])
 
   -- a tick for a given pick: refusals 1, 3 and 5
-  abbrev pub TickIs : ℕ → Changed → Type 0
-  TickIs pick r =
-      changedAs r ≡ change (refusal (table ∷ state ∷ notListed (t .count) (t .period) (t .budget) (s .b) (s .o) pick ∷ []))
+  abbrev pub tickSays : ℕ → Change
+  tickSays pick =
+      change (refusal (table ∷ state ∷ notListed (t .count) (t .period) (t .budget) (s .b) (s .o) pick ∷ []))
       (pairs s) (tick (t .count) (t .period) (t .budget) (s .b) (s .o) pick)
 
+  abbrev pub TickIs : ℕ → Changed → Type 0
+  TickIs pick r = changedAs r ≡ tickSays pick
+
   -- a release: refusals 1, 3 and 6
+  abbrev pub releaseSays : ℕ → Change
+  releaseSays i = change (refusal (table ∷ state ∷ notActive (t .count) (s .b) i ∷ [])) (pairs s) (release (s .b) (s .o) i)
+
   abbrev pub ReleaseIs : ℕ → Changed → Type 0
-  ReleaseIs i r = changedAs r ≡ change (refusal (table ∷ state ∷ notActive (t .count) (s .b) i ∷ [])) (pairs s) (release (s .b) (s .o) i)
+  ReleaseIs i r = changedAs r ≡ releaseSays i

@@ -33,8 +33,11 @@ enum-known-line-4 c = search needs
 enum-known-line-5 : tie.Need-enum-known-line-5
 enum-known-line-5 c = search needs
 
-numbered-requires : tie.Need-numbered-requires
-numbered-requires c κs = search needs
+numbers-requires : tie.Need-numbers-requires
+numbers-requires c κs = search needs
+
+cast-t29 : tie.Need-cast-t29
+cast-t29 c = search needs
 
 returns : tie.Need-returns
 returns c = schedule-header-is (c .enum-told .given .1)
@@ -55,7 +58,7 @@ returns-6 : tie.Need-returns-6
 returns-6 c = end-is (c .before .line4 .given .1)
 
 returns-7 : tie.Need-returns-7
-returns-7 c = refused-is _ _ (c .before .before .line5 .given .1) (c .numbered .ensures)
+returns-7 c = refused-is _ _ (c .before .before .before .line5 .given .1) (c .before .numbers .ensures)
 
 pub fields-of-spec : {M : Type 1} → statement M
 fields-of-spec =
@@ -71,7 +74,8 @@ fields-of-spec =
     response-field-requires
     enum-known-line-4
     enum-known-line-5
-    numbered-requires
+    numbers-requires
+    cast-t29
     returns
     returns-2
     returns-3

@@ -1,0 +1,2 @@
+-- what each call with states by value promises
+pub mod Calls

@@ -1,0 +1,2 @@
+-- what is made of an answer is that answer in numbers
+pub mod Made
