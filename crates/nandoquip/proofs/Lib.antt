@@ -1,2 +1,6 @@
+-- steps of a walk
+pub mod Steps
+-- the table of the first records
+pub mod Columns
 -- a thin function of the hook, walked once for all of them
 pub mod Thin

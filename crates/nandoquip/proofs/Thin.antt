@@ -52,7 +52,7 @@ use Rattle.rules.proofs.Table.Laws as T′
 use Rattle.scheduler.specs.declared.State.{State}
 use Rattle.scheduler.proofs.State as S
 use Rattle.scheduler.proofs.State.Laws as S′
-use Rattle.nandoquip.specs.Promises.{tableOf}
+use Rattle.nandoquip.specs.Records.{tableOf}
 
 -- what one thin function says of the core's function
 pub record Core : Type 2 where

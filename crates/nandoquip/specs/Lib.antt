@@ -1,2 +1,2 @@
--- what each public function promises
-pub mod Promises
+-- the hook's partition table
+pub mod Records

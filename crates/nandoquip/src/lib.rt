@@ -1,5 +1,5 @@
 // The calls as C makes them.
-ghost use Rattle.nandoquip.specs.Promises.{tableOf};
+ghost use Rattle.nandoquip.specs.Records.{tableOf};
 ghost use Rattle.numbers.specs.Promises.{TurnIs, TurnForIs, ReleasedIs};
 ghost use mathlib.Core.Path.{_≡_};
 use numbers::Picked;
@@ -16,22 +16,21 @@ use scheduler::State;
 pub extern "C" fn nandoquip_table_of(parts: &[Part]) -> Table
     ensures { λ r. ⌜ r ≡ tableOf (now (parts .entry)) ⌝ }
 {
-    let mut period = [0u16; 16];
-    let mut budget = [0u16; 16];
-    let mut phase = [0u16; 16];
     let count = parts.len();
+    let mut t = Table {
+        count,
+        period: [0u16; 16],
+        budget: [0u16; 16],
+        phase: [0u16; 16],
+    };
     let n = if count < 16 { count } else { 16 };
     for i in 0..n {
-        period[i] = parts[i].period;
-        budget[i] = parts[i].budget;
-        phase[i] = parts[i].phase;
+        let p = parts[i];
+        t.period[i] = p.period;
+        t.budget[i] = p.budget;
+        t.phase[i] = p.phase;
     }
-    Table {
-        count,
-        period,
-        budget,
-        phase,
-    }
+    t
 }
 
 // A release, on the state where it stands.
