@@ -32,11 +32,11 @@ words-are [] t = tt
 words-are (x ∷ xs) t = ((refl, t .0 .fits), words-are xs (t .1))
 
 -- ---- one more record
-module _ (f : Part → ℕ) (ps : List Part) (i : ℕ) where
-  pub none : words (column 0 f ps) ≡ replicate 16 (vint w16 0)
-  unfolding padded
-  none = refl
+pub none : (f : Part → ℕ) (ps : List Part) → replicate 16 (vint w16 0) ≡ words (column 0 f ps)
+unfolding padded
+none f ps = refl
 
+module _ (f : Part → ℕ) (ps : List Part) (i : ℕ) where
   pub long : i ≤ length ps → i ≤ 16 → length (column i f ps) ≡ 16
   long l h = padded-long 16 (map f (take i ps)) (rw (length-map, length-take-le i ps) h)
 
