@@ -4,3 +4,5 @@ pub mod Steps
 pub mod Columns
 -- a thin function of the hook, walked once for all of them
 pub mod Thin
+-- the functions of the core that the thin functions call
+pub mod Cores

@@ -58,11 +58,11 @@ use Rattle.rules.proofs.Table.Laws as T′
 use Rattle.nandoquip.specs.Records.{column, tableTo, tableOf}
 use Rattle.nandoquip.proofs.Columns.{words, words-are, zeros-fit, none, long, next, all-of}
 use Rattle.nandoquip.proofs.Steps.{elem, tests}
-use Rattle.nandoquip.proofs.nandoquip_table_of.Key.{name as #table-of}
-use Rattle.nandoquip.proofs.nandoquip_table_of as table
-use Rattle.nandoquip.proofs.nandoquip_table_of.Statement as stated
-use Rattle.nandoquip.proofs.nandoquip_table_of.Code as code
-use Rattle.nandoquip.proofs.nandoquip_table_of.Code.Mir as mir
+use Rattle.nandoquip.proofs.hook.nandoquip_table_of.Key.{name as #table-of}
+use Rattle.nandoquip.proofs.hook.nandoquip_table_of as table
+use Rattle.nandoquip.proofs.hook.nandoquip_table_of.Statement as stated
+use Rattle.nandoquip.proofs.hook.nandoquip_table_of.Code as code
+use Rattle.nandoquip.proofs.hook.nandoquip_table_of.Code.Mir as mir
 
 abbrev word : Ty
 word = tyInt w64
