@@ -6,3 +6,5 @@ pub mod Columns
 pub mod Thin
 -- the functions of the core that the thin functions call
 pub mod Cores
+-- any two results that a promise allows are equal
+pub mod OneAnswer

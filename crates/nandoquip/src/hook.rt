@@ -1,7 +1,5 @@
 // What an operating system's partition hook calls: the state is lent, and the partition table is a run of records in kernel memory.
-ghost use mathlib.Core.Path.{_≡_};
-ghost use Rattle.numbers.specs.Promises.{TurnIs, TurnForIs, ReleasedIs};
-ghost use Rattle.nandoquip.specs.Records.{tableOf};
+ghost use Rattle.nandoquip.specs.Promises.{TableOfIs, HookTickIs, HookTickForIs, HookReleaseIs};
 use numbers::Picked;
 use numbers::RefusalNumbers;
 use numbers::released;
@@ -14,7 +12,7 @@ use scheduler::State;
 // The table as the core has it: how many records there are, and the first sixteen.
 #[no_mangle]
 pub extern "C" fn nandoquip_table_of(parts: &[Part]) -> Table
-    ensures { λ r. ⌜ r ≡ tableOf (now (parts .entry)) ⌝ }
+    ensures { λ r. ⌜ TableOfIs (now (parts .entry)) r ⌝ }
 {
     let count = parts.len();
     let mut t = Table {
@@ -36,7 +34,7 @@ pub extern "C" fn nandoquip_table_of(parts: &[Part]) -> Table
 // One decision by the word, and its tick, on the state where it stands.
 #[no_mangle]
 pub extern "C" fn nandoquip_tick(state: &mut State, parts: &[Part], word: u32) -> Picked
-    ensures { λ r. ⌜ TurnIs (tableOf (now (parts .entry))) (now (state .entry)) word (record { picked = r; state = now (state .exit) }) ⌝ }
+    ensures { λ r. ⌜ HookTickIs (now (parts .entry)) (now (state .entry)) word r (now (state .exit)) ⌝ }
 {
     let done = turn(*state, nandoquip_table_of(parts), word);
     *state = done.state;
@@ -46,7 +44,7 @@ pub extern "C" fn nandoquip_tick(state: &mut State, parts: &[Part], word: u32) -
 // The tick for a given pick, on the state where it stands.
 #[no_mangle]
 pub extern "C" fn nandoquip_tick_for(state: &mut State, parts: &[Part], pick: usize) -> RefusalNumbers
-    ensures { λ r. ⌜ TurnForIs (tableOf (now (parts .entry))) (now (state .entry)) pick (record { refusal = r; state = now (state .exit) }) ⌝ }
+    ensures { λ r. ⌜ HookTickForIs (now (parts .entry)) (now (state .entry)) pick r (now (state .exit)) ⌝ }
 {
     let done = turn_for(*state, nandoquip_table_of(parts), pick);
     *state = done.state;
@@ -56,7 +54,7 @@ pub extern "C" fn nandoquip_tick_for(state: &mut State, parts: &[Part], pick: us
 // A release, on the state where it stands.
 #[no_mangle]
 pub extern "C" fn nandoquip_release(state: &mut State, parts: &[Part], index: usize) -> RefusalNumbers
-    ensures { λ r. ⌜ ReleasedIs (tableOf (now (parts .entry))) (now (state .entry)) index (record { refusal = r; state = now (state .exit) }) ⌝ }
+    ensures { λ r. ⌜ HookReleaseIs (now (parts .entry)) (now (state .entry)) index r (now (state .exit)) ⌝ }
 {
     let done = released(*state, nandoquip_table_of(parts), index);
     *state = done.state;
