@@ -43,7 +43,11 @@ pub extern "C" fn nandoquip_tick(state: &mut State, parts: &[Part], word: u32) -
 
 // The tick for a given pick, on the state where it stands.
 #[no_mangle]
-pub extern "C" fn nandoquip_tick_for(state: &mut State, parts: &[Part], pick: usize) -> RefusalNumbers
+pub extern "C" fn nandoquip_tick_for(
+    state: &mut State,
+    parts: &[Part],
+    pick: usize,
+) -> RefusalNumbers
     ensures { λ r. ⌜ HookTickForIs (now (parts .entry)) (now (state .entry)) pick r (now (state .exit)) ⌝ }
 {
     let done = turn_for(*state, nandoquip_table_of(parts), pick);
@@ -53,7 +57,11 @@ pub extern "C" fn nandoquip_tick_for(state: &mut State, parts: &[Part], pick: us
 
 // A release, on the state where it stands.
 #[no_mangle]
-pub extern "C" fn nandoquip_release(state: &mut State, parts: &[Part], index: usize) -> RefusalNumbers
+pub extern "C" fn nandoquip_release(
+    state: &mut State,
+    parts: &[Part],
+    index: usize,
+) -> RefusalNumbers
     ensures { λ r. ⌜ HookReleaseIs (now (parts .entry)) (now (state .entry)) index r (now (state .exit)) ⌝ }
 {
     let done = released(*state, nandoquip_table_of(parts), index);

@@ -101,9 +101,10 @@ module _ (ps : List Part) where
   is-column f i l h t = (words (column i f ps), ((refl, length-map (column i f ps) (λ (x : ℕ). x) ∙ long f ps i l h), words-are (column i f ps) t))
 
   is-table : (i : ℕ) → i ≤ length ps → i ≤ 16 → WT (tableV i) → Is T.the-row (tableTo i ps) (tableV i ∷ [])
-  is-table i l h t =
-      ((vint w64 (length ps) ∷ [], (vstruct (ofList (words (period i))) ∷ [], (vstruct (ofList (words (budget i))) ∷ [], (vstruct (ofList (words (phase i))) ∷ [], tt)))),
-      (refl, ((refl, t .0 .fits), (is-column _ i l h (t .1 .0), (is-column _ i l h (t .1 .1 .0), (is-column _ i l h (t .1 .1 .1 .0), tt))))))
+  is-table i l h t = (
+    (vint w64 (length ps) ∷ [], (vstruct (ofList (words (period i))) ∷ [], (vstruct (ofList (words (budget i))) ∷ [], (vstruct (ofList (words (phase i))) ∷ [], tt)))),
+    (refl, ((refl, t .0 .fits), (is-column _ i l h (t .1 .0), (is-column _ i l h (t .1 .1 .0), (is-column _ i l h (t .1 .1 .1 .0), tt))))),
+  )
 
 module _ {M : Type 1} (𝓤 : URA M) (H : Heap 𝓤) (A : Atoms 𝓤) (W : Given 𝓤 H A) (mem : Memory → SProp 𝓤) (run : Routine → Fun 𝓤) (κ : Lft) (q : Share) (b o : ℕ) (γ : GName) (ps : List Part) where
   abbrev x : RefT (List Part) × Unit {0}
