@@ -53,6 +53,7 @@ use Rattle.scheduler.specs.declared.State.{State}
 use Rattle.scheduler.proofs.State as S
 use Rattle.scheduler.proofs.State.Laws as S′
 use Rattle.nandoquip.specs.Records.{tableOf}
+use Rattle.nandoquip.proofs.Steps.{loc, sets}
 
 -- what one thin function says of the core's function
 pub record Core : Type 2 where
@@ -212,15 +213,15 @@ module _ (K : Core) where
           move ! (15 ∷ 16 ∷ 17 ∷ []) $ opens ! tt S.the-row {h = s} b o (λ vs. spelt ! S.the-row (Is S.the-row) (shows 𝓤 H A S.the-row) (LL.vals S.the-type S′.the-laws) (LL.tells S.the-type S′.the-laws) fullShare s vs b o $
           move ! (1 ∷ []) $ peeks ! S.the-row (Is S.the-row) (shows 𝓤 H A S.the-row) s _ (λ is. drop ! $
           -- [the state's cell; the open borrow; obs; auth; what the table asks; _6; …; room for _0; …]
-          assigns ! (of-opd ! (load ! (from ! (hop ! (look ! 15 refl) (stop !))) (look-raw ! 0 refl))) (from ! (stop !)) (init ! 7 refl (LL.lawful S.the-type S′.the-laws 𝓤 H A W .typed s _ is .0)) $
-          move ! (4 ∷ []) $ calls-at ! fm (TableOf 𝓤 H A) known-table to-table (and-then ! (load ! (from ! (stop !)) (look ! 13 refl)) (no-more !)) (λ v.
+          sets ! (of-opd ! (load ! (from ! (hop ! (look ! 15 refl) (stop !))) (look-raw ! 0 refl))) (init ! 7 refl (LL.lawful S.the-type S′.the-laws 𝓤 H A W .typed s _ is .0)) $
+          move ! (4 ∷ []) $ calls-at ! fm (TableOf 𝓤 H A) known-table to-table (and-then ! (loc ! 13 refl) (no-more !)) (λ v.
           use1 W (later (some (λ (t : Table). ((‵ (flft κ′ q′) ⊛ ‵ ftrue) ⊛ ‵ (T.the-row .own t (v ∷ []))) ⊛ raw (ensured 𝓤 H A tableEnded (tableClauses 𝓤) (κ′, tt) (ps, tt) tt t)))) (id⊢ 𝓤 _) $ await ! tt $ pick ! (λ t.
           split ! $ move ! (1 ∷ []) $ use1 W (raw (fact 𝓤 (t ≡ tableOf (now ps)))) (told-table t) $ heard ! (t ≡ tableOf (now ps)) (λ e. split ! $ move ! (1 ∷ []) $
           peeks ! T.the-row (Is T.the-row) (shows 𝓤 H A T.the-row) t (v ∷ []) (λ is-table.
           -- [the table; the records' token; the state's cell; the open borrow; obs; auth; _6; …; room for _0; …]
           land ! (from ! (stop !)) (init ! 6 refl (LL.lawful T.the-type T′.the-laws 𝓤 H A W .typed t _ is-table .0)) $
           use1 W (raw (Called 𝓤 H A .pre (to-core t v))) (asks-core t v is) $
-          calls-at ! fm (Called 𝓤 H A) known-core (to-core t v) (and-then ! (load ! (from ! (stop !)) (look ! 8 refl)) (and-then ! (load ! (from ! (stop !)) (look ! 6 refl)) (and-then ! (load ! (from ! (stop !)) (look ! 12 refl)) (no-more !)))) (λ u.
+          calls-at ! fm (Called 𝓤 H A) known-core (to-core t v) (and-then ! (loc ! 8 refl) (and-then ! (loc ! 6 refl) (and-then ! (loc ! 12 refl) (no-more !)))) (λ u.
           use1 W (later (some (λ (d : K .X). (‵ ftrue ⊛ ‵ (row Done .own d (u ∷ []))) ⊛ raw (ensured 𝓤 H A calledEnded (calledClauses 𝓤) tt (s, (t, (n, tt))) tt d)))) (id⊢ 𝓤 _) $ await ! tt $ pick ! (λ d.
           split ! $ move ! (1 ∷ []) $ use1 W (raw (fact 𝓤 (K .Promise t s n d))) (told-core t d) $ heard ! (K .Promise t s n d) (λ promised. split ! $ drop ! $
           peeks ! (row Done) (Is (row Done)) (shows 𝓤 H A (row Done)) d (u ∷ []) (λ is-done. drop ! $
@@ -228,7 +229,7 @@ module _ (K : Core) where
           land ! (from ! (stop !)) (init ! 9 refl (LL.lawful Done done-laws 𝓤 H A W .typed d _ is-done .0)) $
           rewrite ! 9 (λ (z : Val). ‵ (fat fullShare (layout (shape Done)) l₄ 0 z)) (ap only (LL.tells Done done-laws d (u ∷ []) is-done)) refl $
           assigns ! (of-opd ! (load ! (from ! (fld ! refl (stop !))) (look-in ! 9 (sub ! 1 refl (whole !))))) (from ! (hop ! (look ! 15 refl) (stop !))) (store-raw ! 1 refl (LL.lawful S.the-type S′.the-laws 𝓤 H A W .typed (K .state d) _ (is-state d u is-done) .0)) $
-          assigns ! (of-opd ! (load ! (from ! (fld ! refl (stop !))) (look-in ! 9 (sub ! 0 refl (whole !))))) (from ! (stop !)) (init ! 17 refl (K .laws .lawful 𝓤 H A W .typed (K .Ans .to (K .answer d)) _ (is-answer d u is-done) .0)) $
+          sets ! (of-opd ! (load ! (from ! (fld ! refl (stop !))) (look-in ! 9 (sub ! 0 refl (whole !))))) (init ! 17 refl (K .laws .lawful 𝓤 H A W .typed (K .Ans .to (K .answer d)) _ (is-answer d u is-done) .0)) $
           move ! (1 ∷ []) $ owned ! S.the-row (Is S.the-row) (LL.makes S.the-type S′.the-plain 𝓤 H A) (K .state d) _ (is-state d u is-done) $ move ! (1 ∷ 0 ∷ 3 ∷ 4 ∷ 5 ∷ []) $ closes ! tt S.the-row (K .state d) (LL.vals S.the-type S′.the-laws (K .state d)) b o $
           -- [obs; the borrow; the state's token; the records' token; _6; …; _0; …]
           returns ! (look ! 16 refl) $ forget ! 4 refl $ forget ! 6 refl $ forget ! 8 refl $ forget ! 10 refl $ forget ! 12 refl $ forget ! 14 refl $ forget ! 16 refl $

@@ -56,8 +56,8 @@ use Rattle.rules.proofs.Part.Laws as P′
 use Rattle.rules.proofs.Table as T
 use Rattle.rules.proofs.Table.Laws as T′
 use Rattle.nandoquip.specs.Records.{column, tableTo, tableOf}
-use Rattle.nandoquip.proofs.Columns.{words, words-are, zeros-fit, none, long, next, all-of}
-use Rattle.nandoquip.proofs.Steps.{elem, tests}
+use Rattle.nandoquip.proofs.Columns.{no-part, period, budget, phase, words, tableV, zeros-fit, is-table, many, place-in, table-none, table-next, all-of}
+use Rattle.nandoquip.proofs.Steps.{loc, sets, elem, tests}
 use Rattle.nandoquip.proofs.hook.nandoquip_table_of.Key.{name as #table-of}
 use Rattle.nandoquip.proofs.hook.nandoquip_table_of as table
 use Rattle.nandoquip.proofs.hook.nandoquip_table_of.Statement as stated
@@ -76,36 +76,6 @@ parts = sliceTy (tyRef (named 0) imm (pointee (P.the-row .written)))
 abbrev stayed : Stays (table.ended .signature .params) (table.ended .kept)
 stayed = (stay-dropped (shrSliceOf (0 ∷ []) tt (plain (λ _. P.the-row))) yes, tt)
 
-abbrev no-part : Part
-no-part = record { period = 0; budget = 0; phase = 0 }
-
--- the table's machine value, of its columns'
-abbrev mach : ℕ → List Val → List Val → List Val → Val
-mach c us vs ws = vstruct (vcons (vint w64 c) (vcons (vstruct (ofList us)) (vcons (vstruct (ofList vs)) (vcons (vstruct (ofList ws)) vnil))))
-
-module _ (ps : List Part) where
-  abbrev period : ℕ → List ℕ
-  period i = column i (λ (p : Part). p .period) ps
-
-  abbrev budget : ℕ → List ℕ
-  budget i = column i (λ (p : Part). p .budget) ps
-
-  abbrev phase : ℕ → List ℕ
-  phase i = column i (λ (p : Part). p .phase) ps
-
-  abbrev tableV : ℕ → Val
-  tableV i = mach (length ps) (words (period i)) (words (budget i)) (words (phase i))
-
-  -- a column that lies in memory is an array of 16-bit numbers
-  is-column : (f : Part → ℕ) (i : ℕ) → i ≤ length ps → i ≤ 16 → WTs (ofList (words (column i f ps))) → shadow (array-field u16-field 16 .row .own (map (λ (x : ℕ). x) (column i f ps)) (vstruct (ofList (words (column i f ps))) ∷ []))
-  is-column f i l h t = (words (column i f ps), ((refl, length-map (column i f ps) (λ (x : ℕ). x) ∙ long f ps i l h), words-are (column i f ps) t))
-
-  is-table : (i : ℕ) → i ≤ length ps → i ≤ 16 → WT (tableV i) → Is T.the-row (tableTo i ps) (tableV i ∷ [])
-  is-table i l h t = (
-    (vint w64 (length ps) ∷ [], (vstruct (ofList (words (period i))) ∷ [], (vstruct (ofList (words (budget i))) ∷ [], (vstruct (ofList (words (phase i))) ∷ [], tt)))),
-    (refl, ((refl, t .0 .fits), (is-column _ i l h (t .1 .0), (is-column _ i l h (t .1 .1 .0), (is-column _ i l h (t .1 .1 .1 .0), tt))))),
-  )
-
 module _ {M : Type 1} (𝓤 : URA M) (H : Heap 𝓤) (A : Atoms 𝓤) (W : Given 𝓤 H A) (mem : Memory → SProp 𝓤) (run : Routine → Fun 𝓤) (κ : Lft) (q : Share) (b o : ℕ) (γ : GName) (ps : List Part) where
   abbrev x : RefT (List Part) × Unit {0}
   x = (record { ptr = (b, o); name = γ; now = ps }, tt)
@@ -119,9 +89,9 @@ module _ {M : Type 1} (𝓤 : URA M) (H : Heap 𝓤) (A : Atoms 𝓤) (W : Given
   abbrev Post : Val → SProp 𝓤
   Post = walkOf 𝓤 H A table.ended stayed (table.clauses 𝓤 H A mem run) .post bound
 
-  exits : (n : ℕ) → tableTo n ps ≡ tableOf ps → Is T.the-row (tableTo n ps) (tableV ps n ∷ []) → ent 𝓤 (A .lft κ q) (Post (tableV ps n))
+  exits : (n : ℕ) → tableTo n ps ≡ tableOf ps → Is T.the-row (tableTo n ps) (tableV n ps ∷ []) → ent 𝓤 (A .lft κ q) (Post (tableV n ps))
   exits n e is =
-      qed W (‵ (flft κ q) ∷ []) ∵ suffices ! _ (ends-at 𝓤 H A table.ended stayed (table.clauses 𝓤 H A mem run) W bound (tableV ps n) (tableTo n ps) (tt, tt) (tt, tt)) $ says ! e $
+      qed W (‵ (flft κ q) ∷ []) ∵ suffices ! _ (ends-at 𝓤 H A table.ended stayed (table.clauses 𝓤 H A mem run) W bound (tableV n ps) (tableTo n ps) (tt, tt) (tt, tt)) $ says ! e $
       nothing ! $ move ! (1 ∷ 0 ∷ []) $ join ! $ frame ! $ nothing ! $ nothing ! $ fjoin ! $ frame ! $ owned ! T.the-row (Is T.the-row) (LL.makes T.the-type T′.the-plain 𝓤 H A) (tableTo n ps) _ is $ done !
 
   module _ (𝓣 : Tables 𝓤 H) (l₀ l₁ l₂ l₃ l₄ l₅ l₆ l₇ l₈ l₉ l₁₀ l₁₁ l₁₂ l₁₃ l₁₄ l₁₅ l₁₆ l₁₇ l₁₈ l₁₉ l₂₀ l₂₁ : ℕ) where
@@ -164,7 +134,7 @@ module _ {M : Type 1} (𝓤 : URA M) (H : Heap 𝓤) (A : Atoms 𝓤) (W : Given
 
       -- [the records; _3, the table; _5, i; _4, n; _1, the slice; room for _12, _13, _14, _15, _6 and _16 to _21]
       abbrev With : Share → List (Item 𝓤) → ℕ → List (Item 𝓤)
-      With q′ Γ i = ‵ (row P.the-row q′ ps b o) ∷ ‵ (fat fullShare T′.mir l₃ 0 (tableV ps i)) ∷ ‵ (fat fullShare word l₅ 0 (vint w64 i)) ∷ ‵ (fat fullShare word l₄ 0 (vint w64 n)) ∷ ‵ (fat fullShare parts l₁ 0 sliceV)
+      With q′ Γ i = ‵ (row P.the-row q′ ps b o) ∷ ‵ (fat fullShare T′.mir l₃ 0 (tableV i ps)) ∷ ‵ (fat fullShare word l₅ 0 (vint w64 i)) ∷ ‵ (fat fullShare word l₄ 0 (vint w64 n)) ∷ ‵ (fat fullShare parts l₁ 0 sliceV)
           ∷ ‵ (froom tyBool l₁₂ 0) ∷ ‵ (froom word l₁₃ 0) ∷ ‵ (froom tyPtr l₁₄ 0) ∷ ‵ (froom P′.mir l₁₅ 0) ∷ ‵ (froom P′.mir l₆ 0)
           ∷ ‵ (froom tyPtr l₁₆ 0) ∷ ‵ (froom tyPtr l₁₇ 0) ∷ ‵ (froom tyPtr l₁₈ 0) ∷ ‵ (froom tyPtr l₁₉ 0) ∷ ‵ (froom tyPtr l₂₀ 0) ∷ ‵ (froom tyPtr l₂₁ 0) ∷ Γ
 
@@ -177,36 +147,36 @@ module _ {M : Type 1} (𝓤 : URA M) (H : Heap 𝓤) (A : Atoms 𝓤) (W : Given
       turns : (q′ : Share) (Γ : List (Item 𝓤)) → Sq W (With q′ Γ n) (runs (𝓣 .C) (𝓣 .Λ) En mir.t-11 (atRet En Post)) → (i : Upto) → Sq W (At q′ Γ i) (runs (𝓣 .C) (𝓣 .Λ) En mir.turn-1 (anyQ (Turned q′ Γ i)))
       unfolding afterTurn
       turns q′ Γ left i =
-          assigns ! (bin ! (load ! (from ! (stop !)) (look ! 2 refl)) (load ! (from ! (stop !)) (look ! 3 refl)) tt) (from ! (stop !)) (init ! 5 refl (tt, tt)) $
-          tests ! (load ! (from ! (stop !)) (look ! 5 refl))
+          sets ! (bin ! (loc ! 2 refl) (loc ! 3 refl) tt) (init ! 5 refl (tt, tt)) $
+          tests ! (loc ! 5 refl)
           (λ less. forget ! 5 refl $
           -- the record is read
-          assigns ! (bin ! (load ! (from ! (stop !)) (look ! 2 refl)) (lit ! tt) (record { fits = times6 less })) (from ! (stop !)) (init ! 6 refl (tt, record { fits = times6 less })) $
-          assigns ! (bin ! (load ! (from ! (fld ! refl (stop !))) (look-in ! 4 (sub ! 0 refl (whole !)))) (load ! (from ! (stop !)) (look ! 6 refl)) tt) (from ! (stop !)) (init ! 7 refl (tt, tt)) $
+          sets ! (bin ! (loc ! 2 refl) (lit ! tt) (record { fits = (fits (omega (arith, below less))) })) (init ! 6 refl (tt, record { fits = (fits (omega (arith, below less))) })) $
+          sets ! (bin ! (load ! (from ! (fld ! refl (stop !))) (look-in ! 4 (sub ! 0 refl (whole !)))) (loc ! 6 refl) tt) (init ! 7 refl (tt, tt)) $
           rewrite ! 7 (λ (p : ℕ). ‵ (fat fullShare tyPtr l₁₄ 0 (vptr b p))) (sym (place-is 6 o (i .0))) refl $
           elem-out ! P.the-row (Is P.the-row) (shows 𝓤 H A P.the-row) (LL.vals P.the-type P′.the-laws) (LL.tells P.the-type P′.the-laws) q′ ps (i .0) no-part b o (within less) (λ g.
           -- [the record's cell; what it owns; the others; _3; _5; _4; _1; _12; _13; _14; _15; _6; …]
-          assigns ! (of-opd ! (load ! (from ! (hop ! (look ! 9 refl) (stop !))) (look-raw ! 0 refl))) (from ! (stop !)) (init ! 10 refl (LL.lawful P.the-type P′.the-laws 𝓤 H A W .typed (getD ps (i .0) no-part) _ g .0)) $
-          assigns ! (of-opd ! (load ! (from ! (stop !)) (look ! 10 refl))) (from ! (stop !)) (init ! 11 refl (LL.lawful P.the-type P′.the-laws 𝓤 H A W .typed (getD ps (i .0) no-part) _ g .0)) $
+          sets ! (of-opd ! (load ! (from ! (hop ! (look ! 9 refl) (stop !))) (look-raw ! 0 refl))) (init ! 10 refl (LL.lawful P.the-type P′.the-laws 𝓤 H A W .typed (getD ps (i .0) no-part) _ g .0)) $
+          sets ! (of-opd ! (loc ! 10 refl)) (init ! 11 refl (LL.lawful P.the-type P′.the-laws 𝓤 H A W .typed (getD ps (i .0) no-part) _ g .0)) $
           elem-back ! P.the-row q′ ps (i .0) no-part (LL.vals P.the-type P′.the-laws (getD ps (i .0) no-part)) b o (within less) $
           -- its three numbers are stored
-          assigns ! (bin ! (load ! (from ! (stop !)) (look ! 2 refl)) (lit ! tt) (record { fits = times2 less })) (from ! (stop !)) (store ! 6 refl (tt, record { fits = times2 less })) $
-          assigns ! (addr ! (from ! (fld ! refl (stop !)))) (from ! (stop !)) (init ! 10 refl (tt, tt)) $
-          assigns ! (bin ! (load ! (from ! (stop !)) (look ! 10 refl)) (load ! (from ! (stop !)) (look ! 6 refl)) tt) (from ! (stop !)) (init ! 11 refl (tt, tt)) $
+          sets ! (bin ! (loc ! 2 refl) (lit ! tt) (record { fits = (fits (omega (arith, below less))) })) (store ! 6 refl (tt, record { fits = (fits (omega (arith, below less))) })) $
+          sets ! (addr ! (from ! (fld ! refl (stop !)))) (init ! 10 refl (tt, tt)) $
+          sets ! (bin ! (loc ! 10 refl) (loc ! 6 refl) tt) (init ! 11 refl (tt, tt)) $
           assigns ! (of-opd ! (load ! (from ! (fld ! refl (stop !))) (look-in ! 9 (sub ! 0 refl (whole !))))) (from ! (hop ! (look ! 11 refl) (stop !)))
-          (store-in ! 1 (elem ! (words (period ps (i .0))) (i .0) (vint w16 0) (many _ less) (place-in _ less) (sub ! 1 refl (whole !))) (tt, record { fits = g .1 .1 .0 .1 })) $
-          assigns ! (bin ! (load ! (from ! (stop !)) (look ! 2 refl)) (lit ! tt) (record { fits = times2 less })) (from ! (stop !)) (store ! 6 refl (tt, record { fits = times2 less })) $
-          assigns ! (addr ! (from ! (fld ! refl (stop !)))) (from ! (stop !)) (init ! 12 refl (tt, tt)) $
-          assigns ! (bin ! (load ! (from ! (stop !)) (look ! 12 refl)) (load ! (from ! (stop !)) (look ! 6 refl)) tt) (from ! (stop !)) (init ! 13 refl (tt, tt)) $
+          (store-in ! 1 (elem ! (words (column (i .0) period ps)) (i .0) (vint w16 0) (many _ ps (i .0) (within less) (below less)) (place-in _ ps (i .0) (within less) (below less)) (sub ! 1 refl (whole !))) (tt, record { fits = g .1 .1 .0 .1 })) $
+          sets ! (bin ! (loc ! 2 refl) (lit ! tt) (record { fits = (fits (omega (arith, below less))) })) (store ! 6 refl (tt, record { fits = (fits (omega (arith, below less))) })) $
+          sets ! (addr ! (from ! (fld ! refl (stop !)))) (init ! 12 refl (tt, tt)) $
+          sets ! (bin ! (loc ! 12 refl) (loc ! 6 refl) tt) (init ! 13 refl (tt, tt)) $
           assigns ! (of-opd ! (load ! (from ! (fld ! refl (stop !))) (look-in ! 9 (sub ! 1 refl (whole !))))) (from ! (hop ! (look ! 13 refl) (stop !)))
-          (store-in ! 1 (elem ! (words (budget ps (i .0))) (i .0) (vint w16 0) (many _ less) (place-in _ less) (sub ! 2 refl (whole !))) (tt, record { fits = g .1 .1 .1 .0 .1 })) $
-          assigns ! (bin ! (load ! (from ! (stop !)) (look ! 2 refl)) (lit ! tt) (record { fits = times2 less })) (from ! (stop !)) (store ! 6 refl (tt, record { fits = times2 less })) $
-          assigns ! (addr ! (from ! (fld ! refl (stop !)))) (from ! (stop !)) (init ! 14 refl (tt, tt)) $
-          assigns ! (bin ! (load ! (from ! (stop !)) (look ! 14 refl)) (load ! (from ! (stop !)) (look ! 6 refl)) tt) (from ! (stop !)) (init ! 15 refl (tt, tt)) $
+          (store-in ! 1 (elem ! (words (column (i .0) budget ps)) (i .0) (vint w16 0) (many _ ps (i .0) (within less) (below less)) (place-in _ ps (i .0) (within less) (below less)) (sub ! 2 refl (whole !))) (tt, record { fits = g .1 .1 .1 .0 .1 })) $
+          sets ! (bin ! (loc ! 2 refl) (lit ! tt) (record { fits = (fits (omega (arith, below less))) })) (store ! 6 refl (tt, record { fits = (fits (omega (arith, below less))) })) $
+          sets ! (addr ! (from ! (fld ! refl (stop !)))) (init ! 14 refl (tt, tt)) $
+          sets ! (bin ! (loc ! 14 refl) (loc ! 6 refl) tt) (init ! 15 refl (tt, tt)) $
           assigns ! (of-opd ! (load ! (from ! (fld ! refl (stop !))) (look-in ! 9 (sub ! 2 refl (whole !))))) (from ! (hop ! (look ! 15 refl) (stop !)))
-          (store-in ! 1 (elem ! (words (phase ps (i .0))) (i .0) (vint w16 0) (many _ less) (place-in _ less) (sub ! 3 refl (whole !))) (tt, record { fits = g .1 .1 .1 .1 .0 .1 })) $
-          assigns-last ! (bin ! (load ! (from ! (stop !)) (look ! 2 refl)) (lit ! tt) (record { fits = plus1 less })) (from ! (stop !)) (store ! 2 refl (tt, record { fits = plus1 less })) $
-          rewrite ! 1 (λ (z : Val). ‵ (fat fullShare T′.mir l₃ 0 z)) (stepped less) refl $
+          (store-in ! 1 (elem ! (words (column (i .0) phase ps)) (i .0) (vint w16 0) (many _ ps (i .0) (within less) (below less)) (place-in _ ps (i .0) (within less) (below less)) (sub ! 3 refl (whole !))) (tt, record { fits = g .1 .1 .1 .1 .0 .1 })) $
+          assigns-last ! (bin ! (loc ! 2 refl) (lit ! tt) (record { fits = (fits (omega (arith, below less))) })) (from ! (stop !)) (store ! 2 refl (tt, record { fits = (fits (omega (arith, below less))) })) $
+          rewrite ! 1 (λ (z : Val). ‵ (fat fullShare T′.mir l₃ 0 z)) (table-next ps (i .0) (within less) (below less)) refl $
           forget ! 6 refl $ forget ! 7 refl $ forget ! 8 refl $ forget ! 9 refl $ forget ! 10 refl $ forget ! 11 refl $ forget ! 12 refl $ forget ! 13 refl $ forget ! 14 refl $ forget ! 15 refl $
           again ! Nearer (At q′ Γ) i (i .0 + 1, add-one-le (ltb→lt (i .0) n less)) (add-one-dec n (i .0) (ltb→lt (i .0) n less))))
           (λ over. forget ! 5 refl $ exec ! (𝓣 .C) (𝓣 .Λ) En mir.t-11 (atRet En Post) $
@@ -218,44 +188,26 @@ module _ {M : Type 1} (𝓤 : URA M) (H : Heap 𝓤) (A : Atoms 𝓤) (W : Given
           below : T (ltb (i .0) n) → i .0 < 16
           below less = lt-of-lt-of-le (ltb→lt (i .0) n less) small
 
-          times6 : T (ltb (i .0) n) → i .0 * 6 < 2 ^ 64
-          times6 less = let h : i .0 < 16 = below less in omega arith
-
-          times2 : T (ltb (i .0) n) → i .0 * 2 < 2 ^ 64
-          times2 less = let h : i .0 < 16 = below less in omega arith
-
-          plus1 : T (ltb (i .0) n) → i .0 + 1 < 2 ^ 64
-          plus1 less = let h : i .0 < 16 = below less in omega arith
-
-          many : (f : Part → ℕ) → T (ltb (i .0) n) → length (words (column (i .0) f ps)) ≡ 16
-          many f less = length-map (column (i .0) f ps) (vint w16) ∙ long f ps (i .0) (le-of-lt (within less)) (le-of-lt (below less))
-
-          place-in : (f : Part → ℕ) → T (ltb (i .0) n) → i .0 < length (words (column (i .0) f ps))
-          place-in f less = rw (many f less) (below less)
-
-          stepped : T (ltb (i .0) n) → mach (length ps)
-              (set (words (period ps (i .0))) (i .0) (vint w16 (getD ps (i .0) no-part .period)))
-              (set (words (budget ps (i .0))) (i .0) (vint w16 (getD ps (i .0) no-part .budget)))
-              (set (words (phase ps (i .0))) (i .0) (vint w16 (getD ps (i .0) no-part .phase))) ≡ tableV ps (i .0 + 1)
-          stepped less k = mach (length ps) (next (λ (p : Part). p .period) ps (i .0) no-part (within less) (below less) k) (next (λ (p : Part). p .budget) ps (i .0) no-part (within less) (below less) k) (next (λ (p : Part). p .phase) ps (i .0) no-part (within less) (below less) k)
+          fits : {x : ℕ} → x ≤ 96 → x < 2 ^ 64
+          fits l = omega arith
 
       abbrev Rest : Share → List (Item 𝓤)
       Rest q′ = ‵ (fobor κ q (arr-parts (shares P.the-row) (length ps) .part q′ ps b o)) ∷ ‵ Shared ∷ ‵ (fat fullShare word l₁₁ 0 (vint w64 n)) ∷ Others tested counted
 
       leaves : take n ps ≡ take 16 ps → (q′ : Share) → Sq W (With q′ (Rest q′) n) (runs (𝓣 .C) (𝓣 .Λ) En mir.t-11 (atRet En Post))
       leaves whole-table q′ =
-          move ! (1 ∷ []) $ well-typed ! (λ t. assigns ! (of-opd ! (load ! (from ! (stop !)) (look ! 0 refl))) (from ! (stop !)) (init ! 45 refl t) $ move ! (1 ∷ 16 ∷ []) $ shuts-slice ! tt P.the-row q′ ps b o $
+          move ! (1 ∷ []) $ well-typed ! (λ t. sets ! (of-opd ! (loc ! 0 refl)) (init ! 45 refl t) $ move ! (1 ∷ 16 ∷ []) $ shuts-slice ! tt P.the-row q′ ps b o $
           -- [the token; _3; _5; _4; _1; _12; …]
           returns ! (look ! 44 refl) $ forget ! 1 refl $ forget ! 2 refl $ forget ! 3 refl $ forget ! 4 refl $ forget ! 17 refl $ forget ! 29 refl $ forget ! 41 refl $ forget ! 44 refl $
           move ! (44 ∷ 45 ∷ 4 ∷ 43 ∷ 41 ∷ 42 ∷ 1 ∷ 40 ∷ 3 ∷ 39 ∷ 2 ∷ 38 ∷ 9 ∷ 37 ∷ 35 ∷ 36 ∷ 33 ∷ 34 ∷ 31 ∷ 32 ∷ 29 ∷ 30 ∷ 17 ∷ 28 ∷ 5 ∷ 27 ∷ 6 ∷ 26 ∷ 7 ∷ 25 ∷ 8 ∷ 24 ∷ 10 ∷ 23 ∷ 11 ∷ 22 ∷ 12 ∷ 21 ∷ 13 ∷ 20 ∷ 14 ∷ 19 ∷ 15 ∷ 18 ∷ []) $
           free1 ! $ free1 ! $ free1 ! $ free1 ! $ free1 ! $ free1 ! $ free1 ! $ free1 ! $ free1 ! $ free1 ! $ free1 ! $ free1 ! $ free1 ! $ free1 ! $ free1 ! $ free1 ! $ free1 ! $ free1 ! $ free1 ! $ free1 ! $ free1 ! $ free1 ! $ free0 ! $
-          keep ! (0 ∷ []) $ by ! (exits n (all-of n ps whole-table) (is-table ps n few small (t .1))))
+          keep ! (0 ∷ []) $ by ! (exits n (all-of n ps whole-table) (is-table n ps few small (t .1))))
 
-      starts : take n ps ≡ take 16 ps → Sq W (Before (‵ (fat fullShare word l₁₁ 0 (vint w64 n))) (‵ (fat fullShare T′.mir l₃ 0 (tableV ps 0))) tested counted) (runs (𝓣 .C) (𝓣 .Λ) En mir.t-8 (atRet En Post))
+      starts : take n ps ≡ take 16 ps → Sq W (Before (‵ (fat fullShare word l₁₁ 0 (vint w64 n))) (‵ (fat fullShare T′.mir l₃ 0 (tableV 0 ps))) tested counted) (runs (𝓣 .C) (𝓣 .Λ) En mir.t-8 (atRet En Post))
       starts whole-table =
           looks-slice ! tt P.the-row (Is P.the-row) (shows 𝓤 H A P.the-row) (LL.vals P.the-type P′.the-laws) (LL.tells P.the-type P′.the-laws) (LL.copy P.the-type P′.the-copy 𝓤 H A W) ps b o (λ q′.
-          assigns ! (of-opd ! (load ! (from ! (stop !)) (look ! 3 refl))) (from ! (stop !)) (init ! 6 refl (tt, record { fits = fits })) $
-          assigns ! (of-opd ! (lit ! tt)) (from ! (stop !)) (init ! 5 refl (tt, record { fits = lit< tt })) $
+          sets ! (of-opd ! (loc ! 3 refl)) (init ! 6 refl (tt, record { fits = fits })) $
+          sets ! (of-opd ! (lit ! tt)) (init ! 5 refl (tt, record { fits = lit< tt })) $
           move ! (0 ∷ 4 ∷ 5 ∷ 6 ∷ 7 ∷ 8 ∷ 9 ∷ 10 ∷ 11 ∷ 12 ∷ 13 ∷ 14 ∷ 15 ∷ 16 ∷ 17 ∷ 18 ∷ []) $
           first ! $ blocks ! $ loops ! 𝓣 Nearer Nearer-wf (At q′ (Rest q′)) (turns q′ (Rest q′) (leaves whole-table q′)) (0, zero-le))
         where
@@ -263,25 +215,21 @@ module _ {M : Type 1} (𝓤 : URA M) (H : Heap 𝓤) (A : Atoms 𝓤) (W : Given
           fits = omega arith
 
     -- the test, and n for the smaller of the count and 16
-    chooses : length ps < 2 ^ 64 → Sq W (Before (‵ (froom word l₁₁ 0)) (‵ (fat fullShare T′.mir l₃ 0 (tableV ps 0))) (‵ (froom tyBool l₁₀ 0)) counted) (runs (𝓣 .C) (𝓣 .Λ) En mir.t-6 (atRet En Post))
+    chooses : length ps < 2 ^ 64 → Sq W (Before (‵ (froom word l₁₁ 0)) (‵ (fat fullShare T′.mir l₃ 0 (tableV 0 ps))) (‵ (froom tyBool l₁₀ 0)) counted) (runs (𝓣 .C) (𝓣 .Λ) En mir.t-6 (atRet En Post))
     chooses fits =
-        assigns ! (bin ! (load ! (from ! (stop !)) (look ! 41 refl)) (lit ! tt) tt) (from ! (stop !)) (init ! 29 refl (tt, tt)) $ first ! $ branches ! (load ! (from ! (stop !)) (look ! 29 refl))
-        (λ less. assigns-last ! (of-opd ! (load ! (from ! (stop !)) (look ! 41 refl))) (from ! (stop !)) (init ! 2 refl (tt, record { fits = fits })) $ exec ! (𝓣 .C) (𝓣 .Λ) En mir.t-8 (atRet En Post) $
+        sets ! (bin ! (loc ! 41 refl) (lit ! tt) tt) (init ! 29 refl (tt, tt)) $ first ! $ branches ! (loc ! 29 refl)
+        (λ less. assigns-last ! (of-opd ! (loc ! 41 refl)) (from ! (stop !)) (init ! 2 refl (tt, record { fits = fits })) $ exec ! (𝓣 .C) (𝓣 .Λ) En mir.t-8 (atRet En Post) $
         starts (length ps) (le-refl (length ps)) (le-of-lt (ltb→lt (length ps) 16 less)) (take-length ps ∙ sym (take-all 16 ps (le-of-lt (ltb→lt (length ps) 16 less)))))
         (λ over. assigns-last ! (of-opd ! (lit ! tt)) (from ! (stop !)) (init ! 2 refl (tt, record { fits = lit< tt })) $ exec ! (𝓣 .C) (𝓣 .Λ) En mir.t-8 (atRet En Post) $
         starts 16 (nltb→le (length ps) 16 over) (le-refl 16) refl)
 
     -- the empty table
-    begun : mach (length ps) (replicate 16 (vint w16 0)) (replicate 16 (vint w16 0)) (replicate 16 (vint w16 0)) ≡ tableV ps 0
-    begun k = mach (length ps) (none (λ (p : Part). p .period) ps k) (none (λ (p : Part). p .budget) ps k) (none (λ (p : Part). p .phase) ps k)
-
     begins : length ps < 2 ^ 64 → Sq W (Before (‵ (froom word l₁₁ 0)) (‵ (froom T′.mir l₃ 0)) (‵ (froom tyBool l₁₀ 0)) (‵ (froom word l₂ 0))) (runs (𝓣 .C) (𝓣 .Λ) En mir.t-1 (atRet En Post))
     begins fits =
-        assigns ! (of-opd ! (load ! (from ! (fld ! refl (stop !))) (look-in ! 6 (sub ! 1 refl (whole !))))) (from ! (stop !)) (init ! 41 refl (tt, record { fits = fits })) $
-        assigns ! (rep ! 16 (lit ! tt)) (from ! (stop !)) (init ! 35 refl (tt, zeros-fit 16)) $ assigns ! (rep ! 16 (lit ! tt)) (from ! (stop !)) (init ! 33 refl (tt, zeros-fit 16)) $ assigns ! (rep ! 16 (lit ! tt)) (from ! (stop !)) (init ! 31 refl (tt, zeros-fit 16)) $
-        assigns ! (agg ! (and-then ! (load ! (from ! (stop !)) (look ! 41 refl)) (and-then ! (load ! (from ! (stop !)) (look ! 35 refl)) (and-then ! (load ! (from ! (stop !)) (look ! 33 refl)) (and-then ! (load ! (from ! (stop !)) (look ! 31 refl)) (no-more !))))))
-        (from ! (stop !)) (init ! 3 refl (tt, (record { fits = fits }, (zeros-fit 16, (zeros-fit 16, (zeros-fit 16, tt)))))) $
-        rewrite ! 3 (λ (z : Val). ‵ (fat fullShare T′.mir l₃ 0 z)) begun refl $ forget ! 35 refl $ forget ! 33 refl $ forget ! 31 refl $ chooses fits
+        sets ! (of-opd ! (load ! (from ! (fld ! refl (stop !))) (look-in ! 6 (sub ! 1 refl (whole !))))) (init ! 41 refl (tt, record { fits = fits })) $
+        sets ! (rep ! 16 (lit ! tt)) (init ! 35 refl (tt, zeros-fit 16)) $ sets ! (rep ! 16 (lit ! tt)) (init ! 33 refl (tt, zeros-fit 16)) $ sets ! (rep ! 16 (lit ! tt)) (init ! 31 refl (tt, zeros-fit 16)) $
+        sets ! (agg ! (and-then ! (loc ! 41 refl) (and-then ! (loc ! 35 refl) (and-then ! (loc ! 33 refl) (and-then ! (loc ! 31 refl) (no-more !)))))) (init ! 3 refl (tt, (record { fits = fits }, (zeros-fit 16, (zeros-fit 16, (zeros-fit 16, tt)))))) $
+        rewrite ! 3 (λ (z : Val). ‵ (fat fullShare T′.mir l₃ 0 z)) (table-none ps) refl $ forget ! 35 refl $ forget ! 33 refl $ forget ! 31 refl $ chooses fits
 
   module _ (𝓣 : Tables 𝓤 H) (is-slice : Is (ShrSlice (named 0) κ P.the-row) (x .0) (sliceV ∷ [])) where
     walk : ent 𝓤 (onEntry 𝓤 H A table.signature (κ, tt) (q, tt) x (sliceV ∷ [], tt)) (WpFn 𝓤 H (𝓣 .C) (𝓣 .Λ) code.function (sliceV ∷ []) Post)
