@@ -1,9 +1,9 @@
 -- The table of the first records, as a loop over them makes it, and as it lies in memory.
-use Prim.Native.Nat.{ℕ, zero, suc, _+_, _≤_, _<_, _^_}
+use Prim.Native.Nat.{ℕ, zero, suc, _+_, _≤_, _<_}
 use native.Mathlib.Nat.{le-of-lt}
 use native.Mathlib.Numerals.{add-one}
 use mathlib.Core.Path.{_≡_, refl, sym, _∙_, ap}
-use mathlib.Core.List.{List, [], _∷_, _++_, map, map-append}
+use mathlib.Core.List.{List, [], _∷_, map, map-append}
 use lib.Dec.{lit<}
 use lib.ListN.{length, getD, take, set, replicate, length-map}
 use lib.Seq.{length-take-le, take-suc}

@@ -3,7 +3,7 @@
 --     sets     a local is assigned, and the rest runs
 --     elem     an element of an array that lies in a local: what `Types/Part.antt`'s `sub` is for a field of a struct
 --     tests    the test of a loop's turn, whose outcome is not known: the turn goes on, or the `exit` is taken
-use mathlib.Core.Path.{_≡_, refl, sym, _∙_, ap, subst}
+use mathlib.Core.Path.{_≡_, _∙_, ap, subst}
 use Prim.Native.Nat.{ℕ, zero, suc, _+_, _*_, _<_}
 use native.Mathlib.Nat.{not-suc-le-zero, le-of-suc-le-suc}
 use mathlib.Core.List.{List, [], _∷_}
