@@ -66,9 +66,6 @@ module _ (f : Part → ℕ) (ps : List Part) (i : ℕ) (l : i < length ps) (h : 
   pub many : length (words (column i f ps)) ≡ 16
   many = length-map (column i f ps) (vint w16) ∙ long f ps i (le-of-lt l) (le-of-lt h)
 
-  pub place-in : i < length (words (column i f ps))
-  place-in = rw many h
-
   next : set (words (column i f ps)) i (vint w16 (f (getD ps i no-part))) ≡ words (column (i + 1) f ps)
   next = words-set (column i f ps) i (f at) ∙ ap words (
       (λ k. set (padded 16 xs) (sym so-far k) (f at))

@@ -42,12 +42,12 @@ module _ {M : Type 1} (𝓤 : URA M) (H : Heap 𝓤) (A : Atoms 𝓤) (W : Given
 
 module _ {M : Type 1} {𝓤 : URA M} {H : Heap 𝓤} {A : Atoms 𝓤} {K : Type 0} {W : Given 𝓤 H A} where
   -- element i of an array's cell that p finds, where the machine's `offset` puts it
-  pub elem : K → {it : Item 𝓤} {q : Share} {τ : Ty} {n b o : ℕ} {back : Val → Item 𝓤} (us : List Val) (i : ℕ) (d : Val) → length us ≡ n → i < length us
+  pub elem : K → {it : Item 𝓤} {q : Share} {τ : Ty} {n b o : ℕ} {back : Val → Item 𝓤} (us : List Val) (i : ℕ) (d : Val) → length us ≡ n → i < n
       → Part K W it q (tyArray τ n) b o (vstruct (ofList us)) back → Part K W it q τ b (i * size τ + o) (getD us i d) (λ u. back (vstruct (ofList (set us i u))))
-  elem t {it} {q} {τ} {n} {b} {o} {back} us i d len l p = subst (λ (at : ℕ). Part K W it q τ b at (getD us i d) (λ u. back (vstruct (ofList (set us i u))))) (place-is (size τ) o i) (record {
+  elem t {it} {q} {τ} {n} {b} {o} {back} us i d len h p = subst (λ (at : ℕ). Part K W it q τ b at (getD us i d) (λ u. back (vstruct (ofList (set us i u))))) (place-is (size τ) o i) (record {
     out = qed W (it ∷ []) ∵ use1 W (‵ (fat q (tyArray τ n) b o (vstruct (ofList us))) ⊛ raw (all 𝓤 Entry)) (p .out) $ split ! $
         use1 W (raw (elems 𝓤 H q τ b o us)) (W .laws .at-elems q τ n b o us) $
-        use1 W (‵ (fat q τ b (place (size τ) o i) (getD us i d)) ⊛ raw (all 𝓤 (Back 𝓤 H A W q τ b d o us i))) (taken 𝓤 H A W q τ b d o us i l) $ split ! $ frame ! $
+        use1 W (‵ (fat q τ b (place (size τ) o i) (getD us i d)) ⊛ raw (all 𝓤 (Back 𝓤 H A W q τ b d o us i))) (taken 𝓤 H A W q τ b d o us i (rw len h)) $ split ! $ frame ! $
         each ! (λ (u : Val). wand 𝓤 (H .at q τ b (place (size τ) o i) u) (mean 𝓤 H A (back (vstruct (ofList (set us i u)))))) (λ u. assume {P = mean 𝓤 H A (back (vstruct (ofList (set us i u))))} ! (‵ (fat q τ b (place (size τ) o i) u)) $
         -- [the element's cell with u; the way back to the row; the way back to the entry]
         move ! (1 ∷ []) $ use1 W (raw (Back 𝓤 H A W q τ b d o us i u)) (allE 𝓤 (Back 𝓤 H A W q τ b d o us i) u) $ move ! (1 ∷ 0 ∷ []) $
