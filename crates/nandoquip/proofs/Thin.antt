@@ -6,7 +6,7 @@
 --     walk                 the MIR, statement by statement. The borrow of the state is open from the copy to the store
 --     thin-meets           the MIR meets the contract
 -- The core's promise is only passed on: nothing here opens it.
-use mathlib.Core.Path.{_≡_, refl, sym, ap, subst}
+use mathlib.Core.Path.{_≡_, refl, ap, subst}
 use Prim.Native.Nat.{ℕ, _<_, _^_}
 use mathlib.Core.List.{[], _∷_, List}
 use lib.ListN.{length}
@@ -73,10 +73,10 @@ pub record Core : Type 2 where
   pub answer : X → Ans .D
   pub state : X → State
   pub one : (x y : X) → _≡_ {A = Denots (rows (as-field Ans ∷ S.the-field ∷ []))} (Ans .to (answer x), (S.the-type .to (state x), tt)) (Ans .to (answer y), (S.the-type .to (state y), tt)) → x ≡ y
-  pub make : Ans .D → State → X
-  pub made : (x : X) → make (answer x) (state x) ≡ x
-  -- the core's promise
+  -- the core's promise, the thin function's own, and that the one is the other
   pub Promise : Table → State → ℕ → X → Type 0
+  pub Own : List Part → State → ℕ → Ans .D → State → Type 0
+  pub passed-on : (parts : List Part) (s : State) (n : ℕ) (x : X) → Promise (tableOf parts) s n x → Own parts s n (answer x) (state x)
 
 module _ (K : Core) where
   abbrev Done : Declared
@@ -120,7 +120,7 @@ module _ (K : Core) where
   stayed = (stay-ref (0 ∷ []) tt (plain (λ _. S.the-row)), (stay-dropped (shrSliceOf (1 ∷ []) tt (plain (λ _. P.the-row))) yes, (stay-dropped (plain (λ _. UInt (K .w))) yes, tt)))
 
   abbrev pub clauses : {M : Type 1} (𝓤 : URA M) → Clauses 𝓤 ended
-  clauses 𝓤 κs a = record { ghost = Unit {0}; requires = λ _. emp 𝓤; ensures = λ _ r e. fact 𝓤 (K .Promise (tableOf (now (a .1 .0))) (now (a .0)) (a .1 .1 .0) (K .make r (now (e .0)))) }
+  clauses 𝓤 κs a = record { ghost = Unit {0}; requires = λ _. emp 𝓤; ensures = λ _ r e. fact 𝓤 (K .Own (now (a .1 .0)) (now (a .0)) (a .1 .1 .0) r (now (e .0))) }
 
   abbrev tableEnded : Ended
   tableEnded = record { signature = record { lifetimes = 1; outlives = []; params = SliceRefOf (0 ∷ []) tt (plain (λ _. P.the-row)) (λ _. tt) ∷ []; result = plain (λ _. T.the-row) }; kept = (yes, tt) }
@@ -196,7 +196,7 @@ module _ (K : Core) where
     exits d is promised =
         qed W (‵ (fobs γ (S.the-row .coded .code (K .state d))) ∷ ‵ (fbor κ (Body (mem S.the-row) b o γ)) ∷ ‵ (flft κ q) ∷ ‵ (flft κ′ q′) ∷ []) ∵
         suffices ! _ (ends-at 𝓤 H A ended stayed (clauses 𝓤) W bound (answerV d) (K .answer d) (K .state d, (tt, (tt, tt))) (tt, (tt, (tt, tt)))) $
-        says ! (subst (K .Promise (tableOf (now ps)) s n) (sym (K .made d)) promised) $
+        says ! (K .passed-on (now ps) s n d promised) $
         nothing ! $ move ! (4 ∷ 0 ∷ []) $ join ! $ move ! (3 ∷ 0 ∷ []) $ join ! $ frame ! $
         feqI ! (List Val) (vptr b o ∷ []) (vptr b o ∷ []) refl $ fjoin3 ! $ nothing ! $ nothing ! $ fjoin ! $ nothing ! $ fjoin ! $ move ! (1 ∷ 0 ∷ []) $ fjoin ! $ frame ! $
         owned ! (row (K .Ans)) (Is (row (K .Ans))) (LL.makes (K .Ans) (K .own-facts) 𝓤 H A) (K .answer d) _ is $ done !

@@ -5,6 +5,7 @@ use denote.Triple.Table.{entered, cited}
 use Rattle.numbers.specs.Promises.{ReleasedIs}
 use Rattle.numbers.proofs.released.Symbol as core
 use Rattle.numbers.proofs.released.Met as core-thm
+use Rattle.nandoquip.specs.Promises.{HookReleaseIs}
 use Rattle.nandoquip.proofs.Cores.{refusing}
 use Rattle.nandoquip.proofs.Thin.{Core, TableOf, Called, thin-meets}
 use Rattle.nandoquip.proofs.hook.nandoquip_table_of.Symbol as table
@@ -15,7 +16,7 @@ use Rattle.nandoquip.proofs.hook.nandoquip_release.Statement as stated
 use Rattle.nandoquip.proofs.hook.nandoquip_release.Code as code
 
 abbrev K : Core
-K = refusing table.name core.name ReleasedIs
+K = refusing table.name core.name ReleasedIs HookReleaseIs (λ parts s n d promised. promised)
 
 pub nandoquip-release-spec : {M : Type 1} → stated.statement M
 unfolding code.routine tablesOf

@@ -5,6 +5,7 @@ use denote.Triple.Table.{entered, cited}
 use Rattle.numbers.specs.Promises.{TurnIs}
 use Rattle.numbers.proofs.turn.Symbol as core
 use Rattle.numbers.proofs.turn.Met as core-thm
+use Rattle.nandoquip.specs.Promises.{HookTickIs}
 use Rattle.nandoquip.proofs.Cores.{picking}
 use Rattle.nandoquip.proofs.Thin.{Core, TableOf, Called, thin-meets}
 use Rattle.nandoquip.proofs.hook.nandoquip_table_of.Symbol as table
@@ -15,7 +16,7 @@ use Rattle.nandoquip.proofs.hook.nandoquip_tick.Statement as stated
 use Rattle.nandoquip.proofs.hook.nandoquip_tick.Code as code
 
 abbrev K : Core
-K = picking table.name core.name TurnIs
+K = picking table.name core.name TurnIs HookTickIs (λ parts s n d promised. promised)
 
 pub nandoquip-tick-spec : {M : Type 1} → stated.statement M
 unfolding code.routine tablesOf

@@ -5,6 +5,7 @@ use denote.Triple.Table.{entered, cited}
 use Rattle.numbers.specs.Promises.{TurnForIs}
 use Rattle.numbers.proofs.turn_for.Symbol as core
 use Rattle.numbers.proofs.turn_for.Met as core-thm
+use Rattle.nandoquip.specs.Promises.{HookTickForIs}
 use Rattle.nandoquip.proofs.Cores.{refusing}
 use Rattle.nandoquip.proofs.Thin.{Core, TableOf, Called, thin-meets}
 use Rattle.nandoquip.proofs.hook.nandoquip_table_of.Symbol as table
@@ -15,7 +16,7 @@ use Rattle.nandoquip.proofs.hook.nandoquip_tick_for.Statement as stated
 use Rattle.nandoquip.proofs.hook.nandoquip_tick_for.Code as code
 
 abbrev K : Core
-K = refusing table.name core.name TurnForIs
+K = refusing table.name core.name TurnForIs HookTickForIs (λ parts s n d promised. promised)
 
 pub nandoquip-tick-for-spec : {M : Type 1} → stated.statement M
 unfolding code.routine tablesOf
