@@ -1,6 +1,6 @@
 -- the hook's partition table
 pub mod Records
--- what each public function promises
-pub mod Promises
+-- what each function of the hook promises
+pub mod Hook
 -- the table of records at work
 pub mod Shown

@@ -1,5 +1,5 @@
 // What an operating system's partition hook calls: the state is lent, and the partition table is a run of records in kernel memory.
-ghost use Rattle.nandoquip.specs.Promises.{TableOfIs, HookTickIs, HookTickForIs, HookReleaseIs};
+ghost use Rattle.nandoquip.specs.Hook.{TableOfIs, HookTickIs, HookTickForIs, HookReleaseIs};
 use numbers::Picked;
 use numbers::RefusalNumbers;
 use numbers::released;

@@ -5,7 +5,7 @@ use denote.Triple.Table.{entered, cited}
 use Rattle.numbers.specs.Promises.{ReleasedIs}
 use Rattle.numbers.proofs.released.Symbol as core
 use Rattle.numbers.proofs.released.Met as core-thm
-use Rattle.nandoquip.specs.Promises.{HookReleaseIs}
+use Rattle.nandoquip.specs.Hook.{HookReleaseIs}
 use Rattle.nandoquip.proofs.Cores.{refusing}
 use Rattle.nandoquip.proofs.Thin.{Core, TableOf, Called, thin-meets}
 use Rattle.nandoquip.proofs.hook.nandoquip_table_of.Symbol as table

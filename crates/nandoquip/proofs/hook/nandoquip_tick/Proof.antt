@@ -5,7 +5,7 @@ use denote.Triple.Table.{entered, cited}
 use Rattle.numbers.specs.Promises.{TurnIs}
 use Rattle.numbers.proofs.turn.Symbol as core
 use Rattle.numbers.proofs.turn.Met as core-thm
-use Rattle.nandoquip.specs.Promises.{HookTickIs}
+use Rattle.nandoquip.specs.Hook.{HookTickIs}
 use Rattle.nandoquip.proofs.Cores.{picking}
 use Rattle.nandoquip.proofs.Thin.{Core, TableOf, Called, thin-meets}
 use Rattle.nandoquip.proofs.hook.nandoquip_table_of.Symbol as table

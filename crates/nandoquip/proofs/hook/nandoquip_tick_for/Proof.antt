@@ -5,7 +5,7 @@ use denote.Triple.Table.{entered, cited}
 use Rattle.numbers.specs.Promises.{TurnForIs}
 use Rattle.numbers.proofs.turn_for.Symbol as core
 use Rattle.numbers.proofs.turn_for.Met as core-thm
-use Rattle.nandoquip.specs.Promises.{HookTickForIs}
+use Rattle.nandoquip.specs.Hook.{HookTickForIs}
 use Rattle.nandoquip.proofs.Cores.{refusing}
 use Rattle.nandoquip.proofs.Thin.{Core, TableOf, Called, thin-meets}
 use Rattle.nandoquip.proofs.hook.nandoquip_table_of.Symbol as table
