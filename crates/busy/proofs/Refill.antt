@@ -16,21 +16,25 @@ use Rattle.laws.proofs.Arrivals.{arrivals-none}
 
 module _ (T B o W : ℕ) where
   -- W is not past the next one
+  pub adds-none : W ≤ o → 0 ≡ arrivals o T W * B
+  adds-none l = sym (rw (arrivals-none o T W l) (zero-mul B))
+
   pub none-due : W ≤ o → Reckoned 8589934592 (arrivals o T W * B) 0
-  none-due l = record { is = sym (rw (arrivals-none o T W l) (zero-mul B)); small = omega arith }
+  none-due l = record { is = adds-none l; small = omega arith }
 
   -- it is past the next one, and not past the one after it
-  pub one-due : o < W → W - o ≤ T → B < 65536 → Reckoned 8589934592 (arrivals o T W * B) B
+  pub adds-one : o < W → W - o ≤ T → B ≡ arrivals o T W * B
   unfolding arrivals
-  one-due l k small =
-      let once : arrivals o T W ≡ 1 = once-due in
-      record { is = sym (rw once (one-mul B)); small = omega arith }
+  adds-one l k = let once : arrivals o T W ≡ 1 = once-due in sym (rw once (one-mul B))
     where
       rest : W - o - T ≡ 0
       rest = omega arith
 
       once-due : arrivals o T W ≡ 1
       once-due = ceil-step (W - o) T (omega arith) (omega arith) ∙ ap suc (ap (λ x. ceil x T) rest ∙ ceil-zero T)
+
+  pub one-due : o < W → W - o ≤ T → B < 65536 → Reckoned 8589934592 (arrivals o T W * B) B
+  one-due l k small = record { is = adds-one l k; small = omega arith }
 
   -- a period of 0 brings none
   pub none-ever : T ≡ 0 → Reckoned 8589934592 (arrivals o T W * B) 0

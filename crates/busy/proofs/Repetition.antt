@@ -14,7 +14,7 @@ use Rattle.rules.specs.BusyLength.{active, busyStart, refill, busySum, deadline
 use Rattle.laws.proofs.Totals.{sum-mono, sum-one-more}
 use Rattle.laws.proofs.Settle.{Rising, Start, up-to, Repeating, repeating-begins, repeated-past, repeated-still, repeating-on, repeating-nearer}
 use Rattle.laws.proofs.BusyLength.{refill-mono}
-use Rattle.busy.specs.Inner.{filling}
+use Rattle.busy.specs.Inner.{filling, Settles, Going}
 
 -- "b > 0" decides what is counted
 pub counted-above : (b h : ℕ) → 0 < b → h ≡ cond (ltb 0 b) h (h + 1)
@@ -39,39 +39,31 @@ module _ (T B o : List ℕ) (top start D : ℕ) where
   unfolding filling
   started = up-to (filling T B o top start) D start filling-rising (λ x. omega arith)
 
-  -- what the repetition answers
-  abbrev pub Settles : Option ℕ
-  Settles = settle (suc D) (filling T B o top start) (ltb D) start
-
-  -- the loop has come to W
-  pub Going : ℕ → Type 0
-  Going W = Repeating (filling T B o top start) (ltb D) D Settles W
-
-  pub going-begins : Going start
+  pub going-begins : Going T B o top start D start
   unfolding Going
   going-begins = repeating-begins started
 
-  module _ (W : ℕ) (here : Going W) where
-    pub going-over : D < W → none ≡ Settles
+  module _ (W : ℕ) (here : Going T B o top start D W) where
+    pub going-over : D < W → none ≡ Settles T B o top start D
     unfolding Going
-    going-over l = repeated-past started Settles W here (lt-ltb D W l)
+    going-over l = repeated-past started (Settles T B o top start D) W here (lt-ltb D W l)
 
-    module _ (r : ℕ) (next : Reckoned 137438953473 (sumBelow top (λ j. refill T B o j W)) r) (l : W ≤ D) where
+    module _ (r : ℕ) (next : r ≡ sumBelow top (λ j. refill T B o j W)) (l : W ≤ D) where
       sum-is : start + r ≡ filling T B o top start W
       unfolding filling
-      sum-is = ap (λ x. start + x) (next .is)
+      sum-is = ap (λ x. start + x) next
 
-      pub going-still : start + r ≡ W → some W ≡ Settles
+      pub going-still : start + r ≡ W → some W ≡ Settles T B o top start D
       unfolding Going
-      going-still = repeated-still started Settles W here (le-ltb D W l) (start + r) sum-is
+      going-still = repeated-still started (Settles T B o top start D) W here (le-ltb D W l) (start + r) sum-is
 
-      pub going-on : (start + r ≡ W → ⊥) → Going (start + r)
+      pub going-on : (start + r ≡ W → ⊥) → Going T B o top start D (start + r)
       unfolding Going
-      going-on = repeating-on started Settles W here (le-ltb D W l) (start + r) sum-is
+      going-on = repeating-on started (Settles T B o top start D) W here (le-ltb D W l) (start + r) sum-is
 
       pub going-nearer : (start + r ≡ W → ⊥) → D + 1 - (start + r) < D + 1 - W
       unfolding Going
-      going-nearer = repeating-nearer started Settles W here (le-ltb D W l) (start + r) sum-is
+      going-nearer = repeating-nearer started (Settles T B o top start D) W here (le-ltb D W l) (start + r) sum-is
 
 -- ---- and so is the whole test
 module _ (T B b o : List ℕ) (h w : ℕ) (d : ℕ) (due : Reckoned 131072 (cond (ltb 0 (b ! h)) (o ! h) (o ! h + T ! h)) d) where
@@ -94,6 +86,12 @@ module _ (T B b o : List ℕ) (h w : ℕ) (d : ℕ) (due : Reckoned 131072 (cond
       go true = omega arith
       go false = let one-more = sum-one-more h (λ j. refill T B o j W) in omega arith
 
+  pub busy-from : (start : ℕ) → start ≡ busyStart b h w → (top : ℕ) (x : Option ℕ) → top ≡ cond (ltb 0 (b ! h)) h (h + 1) → x ≡ Settles T B o top start d
+      → x ≡ busyTest T B b o h w
+  unfolding busyTest
+  busy-from start begins top x e same =
+      same ∙ rw (due-is, begins) (ap (λ (f : ℕ → ℕ). settle (suc (deadline T b o h)) f (ltb (deadline T b o h)) (busyStart b h w)) (fun-ext (filling-is top e)))
+
   module _ (mine : ℕ) (own : Reckoned 65536 (b ! h) mine) (above : ℕ) (waits : Reckoned 1048577 (sumBelow h (λ j. b ! j)) above) where
     pub start-small : w ≤ d → w + mine + above < 2097152
     start-small l =
@@ -108,6 +106,4 @@ module _ (T B b o : List ℕ) (h w : ℕ) (d : ℕ) (due : Reckoned 131072 (cond
 
     pub busy-settled : (top : ℕ) (x : Option ℕ) → top ≡ cond (ltb 0 (b ! h)) h (h + 1) → x ≡ Settles T B o top (w + mine + above) d
         → x ≡ busyTest T B b o h w
-    unfolding busyTest
-    busy-settled top x e same =
-        same ∙ rw (due-is, start-is) (ap (λ (f : ℕ → ℕ). settle (suc (deadline T b o h)) f (ltb (deadline T b o h)) (busyStart b h w)) (fun-ext (filling-is top e)))
+    busy-settled = busy-from (w + mine + above) start-is

@@ -7,8 +7,10 @@ ghost use Rattle.basis.specs.Words.{_!_, sumBelow, settle};
 ghost use Rattle.basis.specs.Reckoned.{Reckoned};
 ghost use Rattle.rules.specs.BusyLength.{arrivals, refill, busyTest};
 ghost use Rattle.busy.specs.Promises.{BusyLengthIs, PassesIs};
-ghost use Rattle.busy.specs.Inner.{filling};
+ghost use Rattle.busy.specs.Inner.{filling, Going};
 ghost use Rattle.busy.specs.Spans.{spanAs};
+
+pub mod search;
 
 // Where the repetition ends: within the deadline, after so many ticks, or past it.
 pub enum Span {
@@ -95,19 +97,20 @@ fn counted(b: u16, h: usize) -> usize
     h + 1
 }
 
-// From `start`, with the refills of `top` partitions added to it: repeats until it stands still, or is past the deadline.
+// From `start`, with the refills of `top` partitions added to it, and having come to `from`: repeats until it stands still, or is past the deadline.
 fn settled<'t, 's>(
     period: &'t [u16; 16],
     budget: &'t [u16; 16],
     o: &'s [u16; 16],
     top: usize,
     start: u64,
+    from: u64,
     deadline: u64,
 ) -> Span
-    requires { ⌜ (top ≤ 16) × (start < 2097152) × (deadline < 131072) ⌝ }
+    requires { ⌜ (top ≤ 16) × (start < 2097152) × (deadline < 131072) × Going (now period) (now budget) (now o) top start deadline from ⌝ }
     ensures { λ r. ⌜ spanAs r ≡ settle (suc deadline) (filling (now (period .entry)) (now (budget .entry)) (now (o .entry)) top start) (ltb deadline) start ⌝ }
 {
-    let mut length = start;
+    let mut length = from;
     while length <= deadline {
         let sum = start + refills(period, budget, o, top, length);
         if sum == length {
@@ -135,7 +138,7 @@ fn busy<'t, 's>(
         return Span::Over;
     }
     let start = w + wide(b[h]) + waiting(b, h);
-    settled(period, budget, o, counted(b[h], h), start, deadline)
+    settled(period, budget, o, counted(b[h], h), start, start, deadline)
 }
 
 // The same for any `h`: there are 16 places, and an index beyond them has no busy length.

@@ -16,51 +16,21 @@ use Rattle.ranges.specs.Verdicts.{verdictAs}
 use Rattle.ranges.specs.declared.Verdict.{Verdict}
 use Rattle.ranges.specs.declared.Verdict.the-variants as verdict
 use Rattle.ranges.proofs.Verdicts.{verdict-refused, verdict-good}
-use Rattle.candidates.specs.Promises.{candidatesOf, SearchIs, Listing, listing}
-use Rattle.candidates.specs.declared.Found.{Found}
-use Rattle.laws.proofs.Padded.{padded-used, padded-long}
-use Rattle.candidates.proofs.Nested.{candidates-short}
+use Rattle.busy.specs.Promises.{Found, candidatesOf, SearchIs}
+use Rattle.busy.proofs.Listed.{found-list}
+use Rattle.candidates.specs.Promises.{Listing, listing}
 
-module _ (n : ℕ) (T B b o : List ℕ) where
-  pub nobody-listed : 16 < n → SearchIs n T B b o (record { list = replicate 17 0; length = 0 })
-  unfolding padded
-  nobody-listed l = record { list = ap (padded 17) (sym none-there); length = ap length (sym none-there) }
-    where
-      none-there : candidatesOf n T B b o ≡ []
-      none-there = ap (λ (a : Bool). cond a (candidates n T B b o inversion) []) (lt-leb n 16 l)
+module _ (n : ℕ) (T B b o : List ℕ) (r : Found) (found : SearchIs n T B b o r) where
+  pub member-is : (pick : ℕ) (a : Bool) → a ≡ has (take (r .length) (r .list)) pick → a ≡ has (candidatesOf n T B b o) pick
+  member-is pick a e = e ∙ ap (λ (xs : List ℕ). has xs pick) (found-list n T B b o r found)
 
-  few-listed : length (candidatesOf n T B b o) ≤ 17
-  few-listed = go (leb n 16) refl
-    where
-      go : (a : Bool) → leb n 16 ≡ a → length (cond a (candidates n T B b o inversion) []) ≤ 17
-      go true e = let short = candidates-short n T B b o in let few = leb-true n 16 e in omega arith
-      go false e = omega arith
-
-  module _ (r : Found) (found : SearchIs n T B b o r) where
-    pub found-few : r .length ≤ 17
-    found-few = let few = few-listed in let same = found .length in omega arith
-
-    pub found-fits : r .length ≤ length (r .list)
-    found-fits =
-        let few = few-listed in
-        let same = found .length in
-        let long = ap length (found .list) ∙ padded-long 17 (candidatesOf n T B b o) few-listed in
-        omega arith
-
-    -- what stands in the used places are the candidates
-    pub found-list : take (r .length) (r .list) ≡ candidatesOf n T B b o
-    found-list = (λ i. take (found .length i) (found .list i)) ∙ padded-used 17 (candidatesOf n T B b o)
-
-    pub member-is : (pick : ℕ) (a : Bool) → a ≡ has (take (r .length) (r .list)) pick → a ≡ has (candidatesOf n T B b o) pick
-    member-is pick a e = e ∙ ap (λ (xs : List ℕ). has xs pick) found-list
-
-    pub list-given : (gs : List Ground) (v : Verdict) → n ≤ 16 → verdictAs v ≡ refusal gs → v ≡ verdict.Good
-        → _≡_ {A = Listing} (record { list = r .list; length = r .length; refused = verdictAs verdict.Good }) (listing (refusal gs) (candidates n T B b o inversion))
-    unfolding listing verdictAs
-    list-given gs v few e d =
-        (λ i. record { list = found .list i; length = found .length i; refused = none })
-        ∙ ap (λ (a : Bool). listing none (cond a (candidates n T B b o inversion) [])) (le-leb n 16 few)
-        ∙ sym (ap (λ (x : Option Refused). listing x (candidates n T B b o inversion)) (sym e ∙ verdict-good v d))
+  pub list-given : (gs : List Ground) (v : Verdict) → n ≤ 16 → verdictAs v ≡ refusal gs → v ≡ verdict.Good
+      → _≡_ {A = Listing} (record { list = r .list; length = r .length; refused = verdictAs verdict.Good }) (listing (refusal gs) (candidates n T B b o inversion))
+  unfolding listing verdictAs
+  list-given gs v few e d =
+      (λ i. record { list = found .list i; length = found .length i; refused = none })
+      ∙ ap (λ (a : Bool). listing none (cond a (candidates n T B b o inversion) [])) (le-leb n 16 few)
+      ∙ sym (ap (λ (x : Option Refused). listing x (candidates n T B b o inversion)) (sym e ∙ verdict-good v d))
 
 pub list-refused : (gs : List Ground) (xs : List ℕ) (v : Verdict) (r : Refusal) → verdictAs v ≡ refusal gs → v ≡ verdict.Refused r
     → _≡_ {A = Listing} (record { list = replicate 17 0; length = 0; refused = verdictAs (verdict.Refused r) }) (listing (refusal gs) xs)

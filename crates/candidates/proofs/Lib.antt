@@ -1,4 +1,2 @@
--- the search
-pub mod Nested
 -- from the search to what the calls say
 pub mod Calls

@@ -1,36 +1,19 @@
 -- What each public function of this crate says, and promises of its answer r.
 use Prim.Native.Nat.{ℕ}
 use mathlib.Core.Path.{_≡_}
-use mathlib.Core.Bool.{Bool, cond}
+use mathlib.Core.Bool.{Bool}
 use mathlib.Core.List.{List, [], _∷_}
 use mathlib.Core.Option.{Option, some, none}
-use lib.Dec.{leb}
 use lib.ListN.{length}
 use Rattle.basis.specs.Words.{has, padded}
-use Rattle.rules.specs.Numbers.{mostPartitions}
 use Rattle.rules.specs.Candidates.{candidates, inversion}
 use Rattle.rules.specs.Refusals.{Refused, badTable, badState, refusal}
 use Rattle.rules.specs.declared.Table.{Table}
 use Rattle.ranges.specs.Verdicts.{verdictAs}
-use Rattle.candidates.specs.declared.Found.{Found}
+use Rattle.busy.specs.Promises.{places, candidatesOf}
 use Rattle.candidates.specs.declared.Listed.{Listed}
 
--- 16 partitions and idle
-abbrev pub places : ℕ
-places = 17
-
--- a list in its places, and its length
-pub record ListIs (xs : List ℕ) (r : Found) : Type 0 where
-  pub list : r .list ≡ padded places xs
-  pub length : r .length ≡ length xs
-
--- the candidates; none of more than sixteen
-abbrev pub candidatesOf : ℕ → List ℕ → List ℕ → List ℕ → List ℕ → List ℕ
-candidatesOf n T B b o = cond (leb n mostPartitions) (candidates n T B b o inversion) []
-
-abbrev pub SearchIs : ℕ → List ℕ → List ℕ → List ℕ → List ℕ → Found → Type 0
-SearchIs n T B b o r = ListIs (candidatesOf n T B b o) r
-
+-- the pick is among the candidates
 abbrev pub MemberIs : ℕ → List ℕ → List ℕ → List ℕ → List ℕ → ℕ → Bool → Type 0
 MemberIs n T B b o pick r = r ≡ has (candidatesOf n T B b o) pick
 

@@ -27,13 +27,11 @@ use Rattle.ranges.specs.declared.Verdict.the-variants as verdict
 use Rattle.laws.proofs.Refusals.{four, late-last}
 use Rattle.ranges.proofs.Verdicts.{verdict-refused, verdict-good, refused-early}
 use Rattle.ranges.proofs.Outcomes.{late-decides, few-of-state}
-use Rattle.candidates.specs.Promises.{candidatesOf, SearchIs}
-use Rattle.candidates.specs.declared.Found.{Found}
+use Rattle.busy.specs.Promises.{Found, candidatesOf, SearchIs}
 use Rattle.laws.proofs.Padded.{padded-used, padded-long}
-use Rattle.candidates.proofs.Calls.{found-few, found-fits, found-list}
-use Rattle.draw.specs.Inner.{weightOf, weighed, Usable, ScalesAre}
+use Rattle.busy.proofs.Listed.{found-few, found-fits, found-list}
+use Rattle.draw.specs.Inner.{weightOf, weighed, Usable, Scales, ScalesAre}
 use Rattle.draw.specs.Promises.{ChooseIs, Weighing, weighing}
-use Rattle.draw.specs.declared.Scales.{Scales}
 use Rattle.draw.proofs.Weighing.{weighed-length}
 use Rattle.draw.proofs.Running.{weightless}
 

@@ -9,7 +9,6 @@ use lib.ListN.{length}
 use Rattle.basis.specs.Words.{_!_, total, padded}
 use Rattle.rules.specs.Candidates.{idle}
 use Rattle.rules.specs.Weights.{weight, idleWeight}
-use Rattle.draw.specs.declared.Scales.{Scales}
 
 -- what a candidate weighs, where those before it weigh `sum`
 unfoldable pub weightOf : List ℕ → List ℕ → ℕ → ℕ → ℕ
@@ -27,6 +26,11 @@ pub record Usable (list : List ℕ) (used : ℕ) : Type 0 where
   pub few : used ≤ 17
   pub fits : used ≤ length list
   pub each : (i : ℕ) → i < used → (list ! i < 16) ⊎ (list ! i ≡ idle)
+
+-- the lent places after the weighing, and the sum of all weights
+pub record Scales : Type 0 where
+  pub weights : List ℕ
+  pub sum : ℕ
 
 -- the weights of these candidates in their places, and their sum
 pub record ScalesAre (b o cs : List ℕ) (r : Scales) : Type 0 where

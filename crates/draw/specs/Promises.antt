@@ -15,7 +15,7 @@ use Rattle.rules.specs.Refusals.{Refused, refusedAs, badTable, badState, noWord
 use Rattle.rules.specs.declared.Table.{Table}
 use Rattle.ranges.specs.Outcome.{Outcome, refused, gives, unlessRefused}
 use Rattle.ranges.specs.Verdicts.{verdictAs}
-use Rattle.candidates.specs.Promises.{places}
+use Rattle.busy.specs.Promises.{places}
 use Rattle.draw.specs.declared.Weighed.{Weighed}
 use Rattle.draw.specs.declared.Decision.{Decision}
 use Rattle.draw.specs.declared.Decision.the-variants as decided

@@ -10,7 +10,7 @@ ghost use Rattle.rules.specs.Pick.{firstExceeding};
 ghost use Rattle.basis.specs.Reckoned.{Reckoned};
 ghost use Rattle.draw.specs.Inner.{weightOf, Usable, ScalesAre};
 ghost use Rattle.draw.specs.Promises.{ChooseIs, WeightsAre, DecideIs};
-use candidates::search;
+use busy::search::search;
 use ranges::Verdict;
 use ranges::judge;
 use rules::Refusal;
@@ -28,12 +28,6 @@ pub struct Weighed {
 pub enum Decision {
     Pick(u8),
     Refused(Refusal),
-}
-
-// The weights of a list, and their sum. Unused places are 0.
-struct Scales {
-    weights: [u32; 17],
-    sum: u64,
 }
 
 // A partition weighs floor(65,536·b/o).
@@ -69,19 +63,25 @@ fn weight_of<'s>(b: &'s [u16; 16], o: &'s [u16; 16], sum: u64, c: u8) -> u32
     weight(b[i], o[i])
 }
 
-// The weights of the first `length` of the list, and their sum.
-fn weigh<'s>(b: &'s [u16; 16], o: &'s [u16; 16], list: &[u8; 17], length: usize) -> Scales
+// The weights of the first `length` of the list into the lent places, and their sum; the other places become 0.
+fn weigh<'s>(
+    b: &'s [u16; 16],
+    o: &'s [u16; 16],
+    list: &[u8; 17],
+    length: usize,
+    weights: &mut [u32; 17],
+) -> u64
     requires { ⌜ Usable (now list) length ⌝ }
-    ensures { λ r. ⌜ ScalesAre (now (b .entry)) (now (o .entry)) (take length (now (list .entry))) r ⌝ }
+    ensures { λ r. ⌜ ScalesAre (now (b .entry)) (now (o .entry)) (take length (now (list .entry))) (record { weights = now (weights .exit); sum = r }) ⌝ }
 {
-    let mut weights = [0u32; 17];
+    *weights = [0u32; 17];
     let mut sum: u64 = 0;
     for i in 0..length {
         let x = weight_of(b, o, sum, list[i]);
         weights[i] = x;
         sum += x as u64;
     }
-    Scales { weights, sum }
+    sum
 }
 
 // A weight as a number to reckon with.
@@ -117,14 +117,15 @@ pub fn choose<'t, 's>(
 ) -> u8
     ensures { λ r. ⌜ ChooseIs n (now (period .entry)) (now (budget .entry)) (now (b .entry)) (now (o .entry)) word r ⌝ }
 {
-    let found = search(n, period, budget, b, o);
-    let scales = weigh(b, o, &found.list, found.length);
-    let sum = scales.sum;
+    let mut list = [0u8; 17];
+    let mut weights = [0u32; 17];
+    let length = search(n, period, budget, b, o, &mut list);
+    let sum = weigh(b, o, &list, length, &mut weights);
     if sum == 0 {
         return 255;
     }
     let at = (word as u64) % sum;
-    pick_at(&found.list, &scales.weights, found.length, at)
+    pick_at(&list, &weights, length, at)
 }
 
 // The weights beside the candidate list. Refusals 1 and 3.
@@ -141,14 +142,14 @@ pub fn weights<'s>(t: Table, b: &'s [u16; 16], o: &'s [u16; 16]) -> Weighed
             verdict: Verdict::Refused(r),
         };
     }
-    let found = search(n, &t.period, &t.budget, b, o);
-    let scales = weigh(b, o, &found.list, found.length);
-    let list = found.list;
-    let weights = scales.weights;
+    let mut list = [0u8; 17];
+    let mut weights = [0u32; 17];
+    let length = search(n, &t.period, &t.budget, b, o, &mut list);
+    let sum = weigh(b, o, &list, length, &mut weights);
     Weighed {
         list,
         weights,
-        length: found.length,
+        length,
         verdict: Verdict::Good,
     }
 }

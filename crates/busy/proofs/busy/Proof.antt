@@ -1,5 +1,5 @@
 use borrow.Author.Needs.{needs}
-use Rattle.busy.proofs.Repetition.{counted-few, busy-over, start-small, busy-settled}
+use Rattle.busy.proofs.Repetition.{counted-few, going-begins, busy-over, start-small, busy-settled}
 use Rattle.busy.proofs.busy.Statement.{statement}
 use Rattle.busy.proofs.busy.Tie as tie
 
@@ -55,7 +55,7 @@ counted-requires : tie.Need-counted-requires
 counted-requires c κs = search needs
 
 settled-requires : tie.Need-settled-requires
-settled-requires c κs = search (needs, counted-few, start-small)
+settled-requires c κs = search (needs, counted-few, start-small, going-begins)
 
 returns-2 : tie.Need-returns-2
 returns-2 c = search (needs, busy-settled)

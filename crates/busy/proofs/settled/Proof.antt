@@ -1,17 +1,18 @@
 use Prim.Native.Nat.{_+_, _-_}
 use borrow.Author.Needs.{needs}
-use Rattle.busy.proofs.Repetition.{Going, going-begins, going-still, going-nearer, going-on, going-over}
+use Rattle.busy.specs.Inner.{Going}
+use Rattle.busy.proofs.Repetition.{going-still, going-nearer, going-on, going-over}
 use Rattle.busy.proofs.settled.Statement.{statement}
 use Rattle.busy.proofs.settled.Tie as tie
 
 abbrev Inv-loop : tie.InvT-loop
-Inv-loop period budget o top start deadline length₀ length = Going period budget o top start deadline length
+Inv-loop period budget o top start from deadline length₀ length = Going period budget o top start deadline length
 
 abbrev μ-loop : tie.MeasureT-loop
-μ-loop period budget o top start deadline length₀ length = deadline + 1 - length
+μ-loop period budget o top start from deadline length₀ length = deadline + 1 - length
 
 loop-holds : tie.Need-loop-holds Inv-loop μ-loop
-loop-holds c = search (needs, going-begins)
+loop-holds c = search needs
 
 refills-requires : tie.Need-refills-requires Inv-loop μ-loop
 refills-requires c κs = search needs

@@ -20,7 +20,7 @@ search-requires : tie.Need-search-requires
 search-requires c κs = search needs
 
 returns-2 : tie.Need-returns-2
-returns-2 c = list-given _ _ _ _ _ _ (c .before .search .ensures) _ _ (few-of-state _ _ _ _ _ _ _ (c .before .before .before .before .before .before .before .judge .ensures) (c .before .before .before .before .before .enum-told .given .1)) (c .before .before .before .before .before .before .before .judge .ensures) (c .before .before .before .before .before .enum-told .given .1)
+returns-2 c = list-given _ _ _ _ _ _ (c .search .ensures) _ _ (few-of-state _ _ _ _ _ _ _ (c .before .before .before .before .before .before .before .judge .ensures) (c .before .before .before .before .before .enum-told .given .1)) (c .before .before .before .before .before .before .before .judge .ensures) (c .before .before .before .before .before .enum-told .given .1)
 
 pub candidates-spec : {M : Type 1} → statement M
 candidates-spec =

@@ -1,5 +1,6 @@
 use borrow.Author.Needs.{needs}
-use Rattle.candidates.proofs.Calls.{found-few, found-fits, member-is}
+use Rattle.busy.proofs.Listed.{found-few, found-fits}
+use Rattle.candidates.proofs.Calls.{member-is}
 use Rattle.candidates.proofs.member.Statement.{statement}
 use Rattle.candidates.proofs.member.Tie as tie
 

@@ -1,5 +1,5 @@
-use Prim.Native.Nat.{_-_, _≤_}
 use borrow.Author.Needs.{needs}
+use Prim.Native.Nat.{_-_, _≤_}
 use Rattle.draw.proofs.Weighing.{WeighedTo, weighing-begins, weighing-on, weighing-ends}
 use Rattle.draw.proofs.weigh.Statement.{statement}
 use Rattle.draw.proofs.weigh.Tie as tie
@@ -17,13 +17,13 @@ element-copy-out-weight-of : tie.Need-element-copy-out-weight-of Inv-loop μ-loo
 element-copy-out-weight-of c = search needs
 
 weight-of-requires : tie.Need-weight-of-requires Inv-loop μ-loop
-weight-of-requires c κs = c .before .before .before .pre .each _ (c .before .loop-test .taken)
+weight-of-requires c κs = c .before .before .before .before .pre .each _ (c .before .loop-test .taken)
 
 mul-weights : tie.Need-mul-weights Inv-loop μ-loop
 mul-weights c = search needs
 
-array-write-weights : tie.Need-array-write-weights Inv-loop μ-loop
-array-write-weights c = search needs
+element-write-weights : tie.Need-element-write-weights Inv-loop μ-loop
+element-write-weights c = search needs
 
 cast-sum : tie.Need-cast-sum Inv-loop μ-loop
 cast-sum c = search needs
@@ -53,7 +53,7 @@ weigh-spec =
     element-copy-out-weight-of
     weight-of-requires
     mul-weights
-    array-write-weights
+    element-write-weights
     cast-sum
     add-sum
     add-i

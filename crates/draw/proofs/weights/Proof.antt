@@ -23,7 +23,7 @@ weigh-requires : tie.Need-weigh-requires
 weigh-requires c κs = search (needs, usable)
 
 returns-2 : tie.Need-returns-2
-returns-2 c = weights-given _ _ _ _ _ _ (c .before .before .before .before .before .search .ensures) _ (c .before .before .weigh .ensures) _ _ (few-of-state _ _ _ _ _ _ _ (c .before .before .before .before .before .before .before .before .before .before .before .judge .ensures) (c .before .before .before .before .before .before .before .before .before .enum-told .given .1)) (c .before .before .before .before .before .before .before .before .before .before .before .judge .ensures) (c .before .before .before .before .before .before .before .before .before .enum-told .given .1)
+returns-2 c = weights-given _ _ _ _ _ _ (c .before .before .before .search .ensures) _ (c .weigh .ensures) _ _ (few-of-state _ _ _ _ _ _ _ (c .before .before .before .before .before .before .before .before .before .before .judge .ensures) (c .before .before .before .before .before .before .before .before .enum-told .given .1)) (c .before .before .before .before .before .before .before .before .before .before .judge .ensures) (c .before .before .before .before .before .before .before .before .enum-told .given .1)
 
 pub weights-spec : {M : Type 1} → statement M
 weights-spec =

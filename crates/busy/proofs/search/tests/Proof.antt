@@ -1,7 +1,7 @@
 use borrow.Author.Needs.{needs}
-use Rattle.candidates.proofs.Nested.{tests-all, tests-none}
-use Rattle.candidates.proofs.tests.Statement.{statement}
-use Rattle.candidates.proofs.tests.Tie as tie
+use Rattle.busy.proofs.Nested.{tests-all, tests-none}
+use Rattle.busy.proofs.search.tests.Statement.{statement}
+use Rattle.busy.proofs.search.tests.Tie as tie
 
 returns : tie.Need-returns
 returns c = search (needs, tests-all)

@@ -1,7 +1,7 @@
 use borrow.Author.Needs.{needs}
-use Rattle.candidates.proofs.Nested.{waits-active, waits-idle}
-use Rattle.candidates.proofs.waits.Statement.{statement}
-use Rattle.candidates.proofs.waits.Tie as tie
+use Rattle.busy.proofs.Nested.{waits-active, waits-idle}
+use Rattle.busy.proofs.search.waits.Statement.{statement}
+use Rattle.busy.proofs.search.waits.Tie as tie
 
 mul-result : tie.Need-mul-result
 mul-result c = search needs

@@ -17,8 +17,7 @@ use Rattle.rules.specs.Candidates.{mayRun, members, idleListed, candidates, idl
 use Rattle.laws.proofs.Tests.{both, and-left, and-right, or-right, never, fails, below-or-not}
 use Rattle.laws.proofs.Places.{true-all, first-some, first-none, has-those, those-has, has-some, has-entry, those-same, map-those-same, those-short, those-stop, those-next, those-skip}
 use Rattle.laws.proofs.Candidates.{first-active-may, failure-ends}
-use Rattle.busy.specs.Promises.{PassesIs}
-use Rattle.candidates.specs.Promises.{SearchIs}
+use Rattle.busy.specs.Promises.{SearchIs}
 use Rattle.laws.proofs.Padded.{padded-next}
 
 -- what small tests amount to
@@ -122,7 +121,7 @@ module _ (n : ℕ) (T B b o : List ℕ) where
   pub record SoFar (c : ℕ) (list : List ℕ) (count passed : ℕ) : Type 0 where
     pub list-is : list ≡ padded 17 (named c)
     pub count-is : count ≡ length (named c)
-    pub passing : (h : ℕ) → h < passed → passes T B b o h 1 ≡ true
+    pub passing : (h : ℕ) → h < passed → passes T B b o h inversion ≡ true
     pub within : c ≤ n + 1
     pub behind : passed ≤ c
     pub short : count ≤ c
@@ -133,14 +132,14 @@ module _ (n : ℕ) (T B b o : List ℕ) where
 
   -- all above h pass
   pub Tested : ℕ → Type 0
-  Tested h = (k : ℕ) → k < h → passes T B b o k 1 ≡ true
+  Tested h = (k : ℕ) → k < h → passes T B b o k inversion ≡ true
 
-  pub tested-on : (h : ℕ) (r : Bool) → Tested h → PassesIs T B b o h 1 r → not r ≡ false → Tested (h + 1)
+  pub tested-on : (h : ℕ) (r : Bool) → Tested h → r ≡ passes T B b o h inversion → not r ≡ false → Tested (h + 1)
   unfolding Tested
   tested-on h r before e on k l = ⊎-elim (before k) (λ m. last (omega arith)) (below-or-not k h)
     where
-      last : h ≡ k → passes T B b o k 1 ≡ true
-      last same = subst (λ (m : ℕ). passes T B b o m 1 ≡ true) same (and-right (ltb h 16) _ (sym e ∙ not-false r on))
+      last : h ≡ k → passes T B b o k inversion ≡ true
+      last same = subst (λ (m : ℕ). passes T B b o m inversion ≡ true) same (sym e ∙ not-false r on)
 
   pub tested-all : (h until : ℕ) → Tested h → until ≤ h → Tested until
   unfolding Tested
@@ -191,6 +190,9 @@ module _ (n : ℕ) (T B b o : List ℕ) where
           go true e l = omega arith
           go false e l = omega arith
 
+      pub tests-few : n ≤ 16 → c < n + 1 → until ≤ 16
+      tests-few few l = let near = tests-within in omega arith
+
       -- once they are all passed, the candidate is in
       pub search-takes : (r : Bool) (x : ℕ) → n ≤ 16 → c < n + 1 → r ≡ wants c → not r ≡ false → Tested until → x ≡ name c
           → SoFar (c + 1) (set list count x) (count + 1) until
@@ -228,15 +230,13 @@ module _ (n : ℕ) (T B b o : List ℕ) where
           placed = (λ i. set (here .list-is i) (here .count-is i) (d i)) ∙ padded-next 17 (named c) (name c) room
 
       -- the first failed test ends the whole search: nobody further down may run
-      pub search-fails : (h : ℕ) (r : Bool) → n ≤ 16 → c < n + 1 → passed ≤ h → h < until → PassesIs T B b o h 1 r → not r ≡ true
+      pub search-fails : (h : ℕ) (r : Bool) → n ≤ 16 → c < n + 1 → passed ≤ h → h < until → r ≡ passes T B b o h inversion → not r ≡ true
           → SearchIs n T B b o (record { list = list; length = count })
       unfolding named
       search-fails h r few l k m e off = listing few (named-all ∙ ap (map name) (those-stop c (n + 1) chosen (here .within) nobody-else))
         where
-          failed : passes T B b o h 1 ≡ false
-          failed =
-              let near = tests-within in
-              ap (λ (a : Bool). a && passes T B b o h 1) (sym (lt-ltb h 16 (omega arith))) ∙ sym e ∙ not-true r off
+          failed : passes T B b o h inversion ≡ false
+          failed = sym e ∙ not-true r off
 
           above : (a : Bool) → ltb 0 count ≡ a → 0 < count
           above true p = ltb-true 0 count p

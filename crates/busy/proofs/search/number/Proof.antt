@@ -1,7 +1,7 @@
 use borrow.Author.Needs.{needs}
-use Rattle.candidates.proofs.Nested.{named-partition, named-idle}
-use Rattle.candidates.proofs.number.Statement.{statement}
-use Rattle.candidates.proofs.number.Tie as tie
+use Rattle.busy.proofs.Nested.{named-partition, named-idle}
+use Rattle.busy.proofs.search.number.Statement.{statement}
+use Rattle.busy.proofs.search.number.Tie as tie
 
 cast-result : tie.Need-cast-result
 cast-result c = search needs
