@@ -43,9 +43,9 @@ FreshIs t s r =
     changedAs r ≡ change (refusal (badTable (t .count) (t .period) (t .budget) (t .phase) ∷ notAdmitted (t .count) (t .period) (t .budget) ∷ []))
     (pairs s) (freshStart (t .count) (t .period) (t .budget) (t .phase))
 
--- the tick itself, over the table's arrays
-abbrev pub TickedIs : ℕ → List ℕ → List ℕ → State → ℕ → State → Type 0
-TickedIs n T B s pick r = pairs r ≡ tick n T B (s .b) (s .o) pick
+-- the tick itself, over lent pairs b and o, which are `bs` and `os` after it
+abbrev pub PassTickIs : ℕ → List ℕ → List ℕ → List ℕ → List ℕ → ℕ → List ℕ → List ℕ → Type 0
+PassTickIs n T B b o pick bs os = _≡_ {A = Pairs} (record { b = bs; o = os }) (tick n T B b o pick)
 
 module _ (t : Table) (s : State) where
   -- the grounds that every call over a state has: refusals 1 and 3
