@@ -2,5 +2,7 @@
 pub mod Verdicts
 -- what the tests of this crate's functions amount to
 pub mod Steps
+-- the pairs inside the table, and those beyond it
+pub mod Parts
 -- from a verdict to what a call says
 pub mod Outcomes

@@ -8,12 +8,12 @@ use native.Mathlib.Omega.{arith}
 use borrow.Author.Tests.{le-leb, lt-leb, lt-ltb, le-ltb, eq-eqb, ne-eqb, not-true, not-false}
 use lib.Dec.{leb, eqb}
 use Rattle.basis.specs.Words.{_!_, within, first}
-use Rattle.rules.specs.Numbers.{partitionInRange, firstBadPartition, pairInRange, firstBadPair}
-use Rattle.rules.specs.declared.Refusal.the-variants.{BadPartition, BadPair}
-use Rattle.ranges.specs.Promises.{JudgeTableIs, JudgeStateIs}
+use Rattle.rules.specs.Numbers.{partitionInRange, firstBadPartition}
+use Rattle.rules.specs.declared.Refusal.the-variants.{BadPartition}
+use Rattle.ranges.specs.Promises.{JudgeTableIs}
 use Rattle.ranges.specs.declared.Verdict.the-variants as verdict
 use Rattle.laws.proofs.Tests.{off-left}
-use Rattle.laws.proofs.Refusals.{table-alone, state-alone}
+use Rattle.laws.proofs.Refusals.{table-alone}
 use Rattle.ranges.proofs.Verdicts.{says-bad, says-good}
 
 pub too-low : (low high x : ℕ) → x < low → false ≡ within low high x
@@ -36,18 +36,12 @@ fails-at p q off = sym (off-left q off)
 pub last-decides : (p q r : Bool) → p ≡ true → r ≡ q → r ≡ (p && q)
 last-decides p q r on e = e ∙ ap (λ (a : Bool). a && q) (sym on)
 
-module _ (n : ℕ) (T B b o : List ℕ) (i : ℕ) where
-  pub inside : (r : Bool) → i < n → r ≡ (within 0 (B ! i) (b ! i) && within 1 (T ! i) (o ! i)) → r ≡ pairInRange n T B b o i
-  unfolding pairInRange
-  inside r l e = rw (lt-ltb i n l) e
+-- a pair that isn't 0, 0, and one that is if its o is
+pub some-left : (b o : ℕ) → 0 < b → false ≡ (eqb b 0 && eqb o 0)
+some-left b o more = sym (off-left (eqb o 0) (ne-eqb b 0 (λ e. omega arith)))
 
-  pub beyond-full : n ≤ i → 0 < b ! i → false ≡ pairInRange n T B b o i
-  unfolding pairInRange
-  beyond-full l more = rw (le-ltb i n l, ne-eqb (b ! i) 0 (λ e. omega arith))
-
-  pub beyond-empty : n ≤ i → b ! i ≤ 0 → eqb (o ! i) 0 ≡ pairInRange n T B b o i
-  unfolding pairInRange
-  beyond-empty l empty = rw (le-ltb i n l, eq-eqb (b ! i) 0 (omega arith))
+pub nothing-left : (b o : ℕ) → b ≤ 0 → eqb o 0 ≡ (eqb b 0 && eqb o 0)
+nothing-left b o less = sym (rw (eq-eqb b 0 (omega arith)))
 
 -- ---- judging a table, entry by entry
 module _ (n : ℕ) (T B phase : List ℕ) where
@@ -74,13 +68,3 @@ module _ (n : ℕ) (T B phase : List ℕ) where
 
       pub good-table : first n (λ j. not (partition j)) ≡ none → JudgeTableIs n T B phase verdict.Good
       good-table e = says-good 1 table-alone _ (by-fields ∙ e)
-
--- ---- judging a state, pair by pair
-module _ (n : ℕ) (T B b o : List ℕ) where
-  pub bad-state : (i : ℕ) → first 16 (λ j. not (pairInRange n T B b o j)) ≡ some i → JudgeStateIs n T B b o (verdict.Refused (BadPair i))
-  unfolding firstBadPair
-  bad-state i e = says-bad 3 state-alone _ (BadPair i) i refl e
-
-  pub good-state : first 16 (λ j. not (pairInRange n T B b o j)) ≡ none → JudgeStateIs n T B b o verdict.Good
-  unfolding firstBadPair
-  good-state e = says-good 3 state-alone _ e

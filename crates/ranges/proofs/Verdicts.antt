@@ -49,29 +49,34 @@ module _ {gs hs : List Ground} (turn : InTurn gs hs) (v : Verdict) (e : verdictA
   pub judged-later : (next : Verdict) → v ≡ verdict.Good → verdictAs next ≡ refusal hs → verdictAs next ≡ refusal (gs ++ hs)
   judged-later next d f = f ∙ sym (left-to-others d)
 
--- what is asked for and isn't there comes after the fields, and has their number
-module _ (k : ℕ) (alone : Alone k) (n h : ℕ) (fields : Option ℕ) (v : Verdict) (e : verdictAs v ≡ refusal (ground k fields ∷ [])) where
-  pub judged-fields : (r : Refusal) → v ≡ verdict.Refused r → verdictAs (verdict.Refused r) ≡ refusal (ground k (orElse fields (unless (ltb h n) h)) ∷ [])
-  judged-fields r d = verdict-refused (verdict.Refused r) r refl ∙ go fields (sym (sym e ∙ verdict-refused v r d))
+-- one ground in two parts: the first part that finds something decides
+module _ (k : ℕ) (alone : Alone k) (sooner later : Option ℕ) (v : Verdict) (e : verdictAs v ≡ refusal (ground k sooner ∷ [])) where
+  pub sooner-refused : (r : Refusal) → v ≡ verdict.Refused r → verdictAs (verdict.Refused r) ≡ refusal (ground k (orElse sooner later) ∷ [])
+  sooner-refused r d = verdict-refused (verdict.Refused r) r refl ∙ go sooner (sym (sym e ∙ verdict-refused v r d))
     where
-      go : (x : Option ℕ) → some (refusedAs r) ≡ refusal (ground k x ∷ []) → some (refusedAs r) ≡ refusal (ground k (orElse x (unless (ltb h n) h)) ∷ [])
+      go : (x : Option ℕ) → some (refusedAs r) ≡ refusal (ground k x ∷ []) → some (refusedAs r) ≡ refusal (ground k (orElse x later) ∷ [])
       go (some i) same = same
       go none same = some-is-none (same ∙ alone none)
 
-  module _ (d : v ≡ verdict.Good) where
-    no-fields : (other : Option ℕ) → orElse fields other ≡ other
-    no-fields other = go fields (sym e ∙ verdict-good v d)
-      where
-        go : (x : Option ℕ) → refusal (ground k x ∷ []) ≡ none → orElse x other ≡ other
-        go (some i) same = some-is-none (sym (alone (some i)) ∙ same)
-        go none same = refl
+  pub left-to-later : v ≡ verdict.Good → orElse sooner later ≡ later
+  left-to-later d = go sooner (sym e ∙ verdict-good v d)
+    where
+      go : (x : Option ℕ) → refusal (ground k x ∷ []) ≡ none → orElse x later ≡ later
+      go (some i) same = some-is-none (sym (alone (some i)) ∙ same)
+      go none same = refl
 
+-- what is asked for and isn't there comes after the fields, and has their number
+module _ (k : ℕ) (alone : Alone k) (n h : ℕ) (fields : Option ℕ) (v : Verdict) (e : verdictAs v ≡ refusal (ground k fields ∷ [])) where
+  pub judged-fields : (r : Refusal) → v ≡ verdict.Refused r → verdictAs (verdict.Refused r) ≡ refusal (ground k (orElse fields (unless (ltb h n) h)) ∷ [])
+  judged-fields = sooner-refused k alone fields _ v e
+
+  module _ (d : v ≡ verdict.Good) where
     pub judged-absent : (r : Refusal) → refusedAs r ≡ record { number = k; second = h } → n ≤ h
         → verdictAs (verdict.Refused r) ≡ refusal (ground k (orElse fields (unless (ltb h n) h)) ∷ [])
-    judged-absent r named l = says-bad k alone _ r h named (no-fields _ ∙ ap (λ (t : Bool). unless t h) (le-ltb h n l))
+    judged-absent r named l = says-bad k alone _ r h named (left-to-later k alone fields _ v e d ∙ ap (λ (t : Bool). unless t h) (le-ltb h n l))
 
     pub judged-there : h < n → verdictAs verdict.Good ≡ refusal (ground k (orElse fields (unless (ltb h n) h)) ∷ [])
-    judged-there l = says-good k alone _ (no-fields _ ∙ ap (λ (t : Bool). unless t h) (lt-ltb h n l))
+    judged-there l = says-good k alone _ (left-to-later k alone fields _ v e d ∙ ap (λ (t : Bool). unless t h) (lt-ltb h n l))
 
 -- and back: where such a verdict is good, the fields are, and what is asked for is there
 module _ (k : ℕ) (alone : Alone k) (n h : ℕ) (fields : Option ℕ) (v : Verdict) (e : verdictAs v ≡ refusal (ground k (orElse fields (unless (ltb h n) h)) ∷ [])) where

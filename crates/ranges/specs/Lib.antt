@@ -4,3 +4,5 @@ pub mod Outcome
 pub mod Verdicts
 -- what each public function promises
 pub mod Promises
+-- the pairs inside the table, and those beyond it
+pub mod Pairs

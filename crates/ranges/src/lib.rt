@@ -1,9 +1,11 @@
 // What is in range: a table and the pairs of a state, judged and refused by number.
 ghost use mathlib.Core.Path.{_≡_};
 ghost use mathlib.Core.Bool.{_&&_};
-ghost use Prim.Native.Nat.{_<_};
+ghost use Prim.Native.Nat.{_≤_};
+ghost use lib.Dec.{eqb};
 ghost use Rattle.basis.specs.Words.{within};
-ghost use Rattle.rules.specs.Numbers.{partitionInRange, pairInRange};
+ghost use Rattle.rules.specs.Numbers.{partitionInRange};
+ghost use Rattle.ranges.specs.Pairs.{pairsInside, firstBadInside, firstBadBeyond, PairsJudged};
 ghost use Rattle.ranges.specs.Promises.{NumbersAre, JudgeTableIs, JudgeIndexIs, JudgeStateIs, JudgeIs};
 use rules::Refusal;
 
@@ -70,25 +72,14 @@ fn pair_in_range(period: u16, budget: u16, b: u16, o: u16) -> bool
     lies_within(1, period, o)
 }
 
-// A pair inside the table is within its partition's numbers, and one beyond it is 0, 0.
-fn pair_at_in_range<'t, 's>(
-    n: usize,
-    period: &'t [u16; 16],
-    budget: &'t [u16; 16],
-    b: &'s [u16; 16],
-    o: &'s [u16; 16],
-    i: usize,
-) -> bool
-    requires { ⌜ i < 16 ⌝ }
-    ensures { λ r. ⌜ r ≡ pairInRange n (now (period .entry)) (now (budget .entry)) (now (b .entry)) (now (o .entry)) i ⌝ }
+// A pair beyond the table is 0, 0.
+fn pair_is_zero(b: u16, o: u16) -> bool
+    ensures { λ r. ⌜ r ≡ (eqb b 0 && eqb o 0) ⌝ }
 {
-    if i < n {
-        return pair_in_range(period[i], budget[i], b[i], o[i]);
-    }
-    if b[i] > 0 {
+    if b > 0 {
         return false;
     }
-    o[i] == 0
+    o == 0
 }
 
 // Refusal 1. A count is judged before the fields.
@@ -134,6 +125,48 @@ pub fn judge_index<'t>(
     Verdict::Good
 }
 
+// The pairs inside the table: one for each partition, and sixteen at most.
+fn pairs_inside(n: usize) -> usize
+    ensures { λ r. ⌜ r ≡ pairsInside n ⌝ }
+{
+    if n > 16 {
+        return 16;
+    }
+    n
+}
+
+// Refusal 3, of the first `n` pairs, which are inside the table.
+fn judge_inside<'t, 's>(
+    n: usize,
+    period: &'t [u16; 16],
+    budget: &'t [u16; 16],
+    b: &'s [u16; 16],
+    o: &'s [u16; 16],
+) -> Verdict
+    requires { ⌜ n ≤ 16 ⌝ }
+    ensures { λ r. ⌜ PairsJudged (firstBadInside n (now (period .entry)) (now (budget .entry)) (now (b .entry)) (now (o .entry))) r ⌝ }
+{
+    for i in 0..n {
+        if !pair_in_range(period[i], budget[i], b[i], o[i]) {
+            return Verdict::Refused(Refusal::BadPair(i));
+        }
+    }
+    Verdict::Good
+}
+
+// Refusal 3, of the pairs from `n` on, which are beyond the table.
+fn judge_beyond<'s>(n: usize, b: &'s [u16; 16], o: &'s [u16; 16]) -> Verdict
+    requires { ⌜ n ≤ 16 ⌝ }
+    ensures { λ r. ⌜ PairsJudged (firstBadBeyond n (now (b .entry)) (now (o .entry))) r ⌝ }
+{
+    for j in n..16 {
+        if !pair_is_zero(b[j], o[j]) {
+            return Verdict::Refused(Refusal::BadPair(j));
+        }
+    }
+    Verdict::Good
+}
+
 // Refusal 3, of all 16 pairs.
 pub fn judge_state<'t, 's>(
     n: usize,
@@ -144,12 +177,12 @@ pub fn judge_state<'t, 's>(
 ) -> Verdict
     ensures { λ r. ⌜ JudgeStateIs n (now (period .entry)) (now (budget .entry)) (now (b .entry)) (now (o .entry)) r ⌝ }
 {
-    for i in 0..16 {
-        if !pair_at_in_range(n, period, budget, b, o, i) {
-            return Verdict::Refused(Refusal::BadPair(i));
-        }
+    let inside = pairs_inside(n);
+    let first = judge_inside(inside, period, budget, b, o);
+    if let Verdict::Refused(r) = first {
+        return Verdict::Refused(r);
     }
-    Verdict::Good
+    judge_beyond(inside, b, o)
 }
 
 // Refusals 1 and 3, in this order.

@@ -25,7 +25,7 @@ use Rattle.draw.specs.Promises.{ChooseIs}
 use Rattle.draw.proofs.Calls.{chosen}
 use Rattle.draw.specs.declared.Decision.the-variants as decided
 use Rattle.scheduler.specs.States.{pairs}
-use Rattle.scheduler.specs.Promises.{JudgedIs, TickedIs}
+use Rattle.scheduler.specs.Promises.{JudgedIs, PassTickIs}
 use Rattle.scheduler.specs.declared.State.{State}
 use Rattle.runs.specs.Promises.{Step, stepped, Runs, runs, picksInto, StepIs, RunIs, Filled}
 
@@ -59,7 +59,7 @@ module _ (t : Table) (s : State) (v : Verdict) (judged : JudgedIs t s v) where
 
   module _ (good : v ≡ verdict.Good) where
     pub step-made : (word pick : ℕ) (f : State) → ChooseIs (t .count) (t .period) (t .budget) (s .b) (s .o) word pick
-        → TickedIs (t .count) (t .period) (t .budget) s pick f → StepIs t s word (record { state = f; decision = decided.Pick pick })
+        → PassTickIs (t .count) (t .period) (t .budget) (s .b) (s .o) pick (f .b) (f .o) → StepIs t s word (record { state = f; decision = decided.Pick pick })
     step-made word pick f e d =
         ap (λ (p : Pairs). record { after = p; says = gives pick }) d
         ∙ ap (λ p. record { after = tick (t .count) (t .period) (t .budget) (s .b) (s .o) p; says = gives p }) (chosen (t .count) (t .period) (t .budget) (s .b) (s .o) word pick (few-of-state _ _ _ _ _ _ v judged good) e)

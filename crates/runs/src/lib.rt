@@ -5,10 +5,12 @@ ghost use Rattle.runs.specs.Promises.{StepIs, RunIs, Filled};
 use draw::Decision;
 use draw::choose;
 use ranges::Verdict;
+use ranges::judge;
 use rules::Refusal;
 use rules::Table;
 use scheduler::Changed;
 use scheduler::State;
+use scheduler::pass_tick;
 
 // The state after a step, and its pick.
 pub struct Stepped {
@@ -20,15 +22,19 @@ pub struct Stepped {
 pub fn step(state: State, t: Table, word: u32) -> Stepped
     ensures { λ r. ⌜ StepIs t state word r ⌝ }
 {
-    if let Verdict::Refused(r) = state.judged(t) {
+    let judged = judge(t.count, &t.period, &t.budget, &t.phase, &state.b, &state.o);
+    if let Verdict::Refused(r) = judged {
         return Stepped {
             state,
             decision: Decision::Refused(r),
         };
     }
-    let pick = choose(t.count, &t.period, &t.budget, &state.b, &state.o, word);
+    let mut b = state.b;
+    let mut o = state.o;
+    let pick = choose(t.count, &t.period, &t.budget, &b, &o, word);
+    pass_tick(t.count, &t.period, &t.budget, &mut b, &mut o, pick as usize);
     Stepped {
-        state: state.ticked(t.count, &t.period, &t.budget, pick as usize),
+        state: State { b, o },
         decision: Decision::Pick(pick),
     }
 }
@@ -45,13 +51,14 @@ fn ran<'t>(
     requires { ⌜ (n ≤ 16) × (Seq.length (now words) ≤ Seq.length (now picks)) ⌝ }
     ensures { λ r. ⌜ Filled n (now (period .entry)) (now (budget .entry)) start (now (words .entry)) (now (picks .entry)) r (now (picks .exit)) ⌝ }
 {
-    let mut state = start;
+    let mut b = start.b;
+    let mut o = start.o;
     for i in 0..words.len() {
-        let pick = choose(n, period, budget, &state.b, &state.o, words[i]);
+        let pick = choose(n, period, budget, &b, &o, words[i]);
         picks[i] = pick;
-        state = state.ticked(n, period, budget, pick as usize);
+        pass_tick(n, period, budget, &mut b, &mut o, pick as usize);
     }
-    state
+    State { b, o }
 }
 
 // A run over lent words into a lent buffer, a byte for each pick. Refusals 1, 3 and 7.

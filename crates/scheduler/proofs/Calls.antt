@@ -30,7 +30,7 @@ use Rattle.standing.specs.declared.Test.{Test}
 use Rattle.standing.specs.declared.Test.the-variants as test
 use Rattle.candidates.specs.Promises.{MemberIs}
 use Rattle.scheduler.specs.States.{pairs}
-use Rattle.scheduler.specs.Promises.{changedAs, kept, made, change, FreshIs, JudgedIs, TickedIs, TickIs, ReleaseIs}
+use Rattle.scheduler.specs.Promises.{changedAs, kept, made, change, FreshIs, JudgedIs, PassTickIs, TickIs, ReleaseIs}
 use Rattle.scheduler.specs.declared.State.{State}
 use Rattle.scheduler.specs.declared.Changed.{Changed}
 
@@ -94,7 +94,7 @@ module _ (t : Table) (s : State) (v : Verdict) (judged : JudgedIs t s v) (r : Ch
         (late-decides _ _ _ five v judged good (some pick) (ap (λ (a : Bool). unless a pick) (sym (allowed pick m e) ∙ not-true m off)))
 
     pub tick-made : (pick : ℕ) (m : Bool) (f : State) → MemberIs (t .count) (t .period) (t .budget) (s .b) (s .o) pick m → not m ≡ false
-        → TickedIs (t .count) (t .period) (t .budget) s pick f → changedAs r ≡ made (pairs f) → TickIs t s pick r
+        → PassTickIs (t .count) (t .period) (t .budget) (s .b) (s .o) pick (f .b) (f .o) → changedAs r ≡ made (pairs f) → TickIs t s pick r
     tick-made pick m f e on =
         changed _ (pairs s) _ r (pairs f) (late-decides _ _ _ five v judged good none (ap (λ (a : Bool). unless a pick) (sym (allowed pick m e) ∙ not-false m on)))
 

@@ -46,9 +46,9 @@ freshSays t s =
 abbrev pub FreshIs : Table → State → Changed → Type 0
 FreshIs t s r = changedAs r ≡ freshSays t s
 
--- the tick itself, over the table's arrays
-abbrev pub TickedIs : ℕ → List ℕ → List ℕ → State → ℕ → State → Type 0
-TickedIs n T B s pick r = pairs r ≡ tick n T B (s .b) (s .o) pick
+-- the tick itself, over lent pairs b and o, which are `bs` and `os` after it
+abbrev pub PassTickIs : ℕ → List ℕ → List ℕ → List ℕ → List ℕ → ℕ → List ℕ → List ℕ → Type 0
+PassTickIs n T B b o pick bs os = _≡_ {A = Pairs} (record { b = bs; o = os }) (tick n T B b o pick)
 
 module _ (t : Table) (s : State) where
   -- the grounds that every call over a state has: refusals 1 and 3

@@ -1,11 +1,12 @@
 // The scheduler's state, and what changes it: fresh start, tick and release.
 ghost use mathlib.Core.Path.{_≡_};
 ghost use Prim.Native.Nat.{_≤_};
+ghost use lib.ListN as Seq;
 ghost use Rattle.rules.specs.FreshStart.{freshStart};
-ghost use Rattle.rules.specs.Tick.{passTime};
+ghost use Rattle.rules.specs.Tick.{spend};
 ghost use Rattle.rules.specs.Refusals.{refusedAs};
-ghost use Rattle.scheduler.specs.States.{pairs, spentPairs};
-ghost use Rattle.scheduler.specs.Promises.{changedAs, kept, made, FreshIs, JudgedIs, TickedIs, TickIs, ReleaseIs};
+ghost use Rattle.scheduler.specs.States.{pairs, paired, PassTimeIs};
+ghost use Rattle.scheduler.specs.Promises.{changedAs, kept, made, FreshIs, JudgedIs, PassTickIs, TickIs, ReleaseIs};
 use candidates::member;
 use ranges::Verdict;
 use ranges::judge;
@@ -44,6 +45,69 @@ fn fresh_start(t: Table) -> State
         }
     }
     State { b, o }
+}
+
+// A picked partition loses one of b. Idle stands beyond the sixteen.
+fn spend_one(b: &mut [u16], pick: usize)
+    requires { ⌜ Seq.length (now b) ≡ 16 ⌝ }
+    ensures { λ _. ⌜ now (b .exit) ≡ spend (now (b .entry)) pick ⌝ }
+{
+    if pick >= 16 {
+        return;
+    }
+    let left = b[pick];
+    if left == 0 {
+        return;
+    }
+    b[pick] = left - 1;
+}
+
+// How many of `n` partitions have a pair.
+fn paired(n: usize, o: &[u16]) -> usize
+    ensures { λ r. ⌜ r ≡ paired n (Seq.length (now (o .entry))) ⌝ }
+{
+    if n > o.len() {
+        return o.len();
+    }
+    n
+}
+
+// Time passes for each of `n` partitions: o falls by 1, and where it reaches 0, b becomes B and o becomes T.
+fn pass_time<'t>(
+    n: usize,
+    period: &'t [u16; 16],
+    budget: &'t [u16; 16],
+    b: &mut [u16; 16],
+    o: &mut [u16; 16],
+)
+    requires { ⌜ n ≤ 16 ⌝ }
+    ensures { λ _. ⌜ PassTimeIs n (now (period .entry)) (now (budget .entry)) (now (b .entry)) (now (o .entry)) (now (b .exit)) (now (o .exit)) ⌝ }
+{
+    for i in 0..n {
+        let next = o[i];
+        if next > 1 {
+            o[i] = next - 1;
+        } else {
+            b[i] = budget[i];
+            o[i] = period[i];
+        }
+    }
+}
+
+// A tick over lent pairs: the pick loses one of b, then time passes for each of `n` partitions. There are sixteen pairs, whatever the count.
+pub fn pass_tick<'t>(
+    n: usize,
+    period: &'t [u16; 16],
+    budget: &'t [u16; 16],
+    b: &mut [u16; 16],
+    o: &mut [u16; 16],
+    pick: usize,
+)
+    ensures { λ _. ⌜ PassTickIs n (now (period .entry)) (now (budget .entry)) (now (b .entry)) (now (o .entry)) pick (now (b .exit)) (now (o .exit)) ⌝ }
+{
+    spend_one(b, pick);
+    let most = paired(n, o);
+    pass_time(most, period, budget, b, o);
 }
 
 impl State {
@@ -85,54 +149,6 @@ impl State {
         judge(t.count, &t.period, &t.budget, &t.phase, &self.b, &self.o)
     }
 
-    // A picked partition loses one of b. Idle stands beyond the sixteen.
-    fn spent(mut self, pick: usize) -> State
-        ensures { λ r. ⌜ pairs r ≡ spentPairs self pick ⌝ }
-    {
-        if pick >= 16 {
-            return self;
-        }
-        let left = self.b[pick];
-        if left == 0 {
-            return self;
-        }
-        self.b[pick] = left - 1;
-        self
-    }
-
-    // Time passes for each of `n` partitions: o falls by 1, and where it reaches 0, b becomes B and o becomes T.
-    fn passed<'t>(mut self, n: usize, period: &'t [u16; 16], budget: &'t [u16; 16]) -> State
-        requires { ⌜ n ≤ 16 ⌝ }
-        ensures { λ r. ⌜ pairs r ≡ passTime n (now (period .entry)) (now (budget .entry)) (self .b) (self .o) ⌝ }
-    {
-        for i in 0..n {
-            let next = self.o[i];
-            if next > 1 {
-                self.o[i] = next - 1;
-            } else {
-                self.b[i] = budget[i];
-                self.o[i] = period[i];
-            }
-        }
-        self
-    }
-
-    // The tick itself, over the table's arrays: the pick loses its tick first, and then time passes. There are sixteen pairs, whatever the count.
-    pub fn ticked<'t>(
-        self,
-        n: usize,
-        period: &'t [u16; 16],
-        budget: &'t [u16; 16],
-        pick: usize,
-    ) -> State
-        ensures { λ r. ⌜ TickedIs n (now (period .entry)) (now (budget .entry)) self pick r ⌝ }
-    {
-        if n > 16 {
-            return self.spent(pick).passed(16, period, budget);
-        }
-        self.spent(pick).passed(n, period, budget)
-    }
-
     // A tick for a given pick. Refusals 1, 3 and 5.
     pub fn tick(self, t: Table, pick: usize) -> Changed
         ensures { λ r. ⌜ TickIs t self pick r ⌝ }
@@ -143,7 +159,10 @@ impl State {
         if !member(t.count, &t.period, &t.budget, &self.b, &self.o, pick) {
             return self.kept(Refusal::NotListed(pick));
         }
-        self.ticked(t.count, &t.period, &t.budget, pick).made()
+        let mut b = self.b;
+        let mut o = self.o;
+        pass_tick(t.count, &t.period, &t.budget, &mut b, &mut o, pick);
+        State { b, o }.made()
     }
 
     // A release gives up what is left of one budget: the whole state comes back with one number changed. Refusals 1, 3 and 6.

@@ -27,14 +27,14 @@ kept-requires-2 c κs = search needs
 returns-2 : tie.Need-returns-2
 returns-2 c = tick-unlisted _ _ _ (c .before .before .before .before .before .before .before .before .before .before .before .judged .ensures) _ (c .before .before .before .before .before .before .before .before .before .enum-told .given .1) _ _ (c .before .before .member .ensures) (c .before .if1 .taken) (c .kept2 .ensures)
 
-ticked-requires : tie.Need-ticked-requires
-ticked-requires c κs = search needs
+pass-tick-requires : tie.Need-pass-tick-requires
+pass-tick-requires c κs = search needs
 
 made-requires : tie.Need-made-requires
 made-requires c κs = search needs
 
 returns-3 : tie.Need-returns-3
-returns-3 c = tick-made _ _ _ (c .before .before .before .before .before .before .before .before .before .before .before .before .before .before .before .judged .ensures) _ (c .before .before .before .before .before .before .before .before .before .before .before .before .before .enum-told .given .1) _ _ _ (c .before .before .before .before .before .before .member .ensures) (c .before .before .before .before .before .if1 .left) (c .before .ticked .ensures) (c .made .ensures)
+returns-3 c = tick-made _ _ _ (c .before .before .before .before .before .before .before .before .before .before .before .before .before .before .before .before .before .before .before .judged .ensures) _ (c .before .before .before .before .before .before .before .before .before .before .before .before .before .before .before .before .before .enum-told .given .1) _ _ _ (c .before .before .before .before .before .before .before .before .before .before .member .ensures) (c .before .before .before .before .before .before .before .before .before .if1 .left) (c .before .pass-tick .ensures) (c .made .ensures)
 
 pub tick-spec : {M : Type 1} → statement M
 tick-spec =
@@ -48,6 +48,6 @@ tick-spec =
     member-requires
     kept-requires-2
     returns-2
-    ticked-requires
+    pass-tick-requires
     made-requires
     returns-3)
