@@ -1,5 +1,5 @@
 -- The sixteen pairs in two parts: what is found inside the table, and what is found beyond it, is what is found of all.
-use Prim.Native.Nat.{ℕ, zero, suc, _≤_, _<_}
+use Prim.Native.Nat.{ℕ, zero, suc, _+_, _≤_, _<_}
 use mathlib.Core.Path.{_≡_, refl, sym, _∙_, ap, subst}
 use mathlib.Core.Bool.{Bool, true, false, not, _&&_, _||_}
 use mathlib.Core.List.{List, [], _∷_}
@@ -8,15 +8,16 @@ use mathlib.Core.Option.{Option, some, none}
 use native.Mathlib.Nat.{le-refl}
 use native.Mathlib.Numerals.{add-one}
 use native.Mathlib.Omega.{arith}
-use borrow.Author.Tests.{lt-ltb, le-ltb}
+use borrow.Author.Tests.{lt-ltb, le-ltb, eqb-true}
 use lib.Dec.{ltb, eqb}
 use Rattle.basis.specs.Words.{_!_, within, first, orElse}
+use Rattle.basis.specs.Reckoned.{Reckoned}
 use Rattle.rules.specs.Numbers.{pairInRange, firstBadPair}
 use Rattle.rules.specs.Refusals.{ground, refusal}
 use Rattle.rules.specs.declared.Refusal.{Refusal}
 use Rattle.rules.specs.declared.Refusal.the-variants.{BadPair}
 use Rattle.laws.proofs.Tests.{below-or-not}
-use Rattle.laws.proofs.Places.{First, first-none, first-some, some-first, first-same, PassTo, pass-begins, pass-next}
+use Rattle.laws.proofs.Places.{First, first-none, first-some, some-first, first-same, PassTo, pass-begins, pass-next, none-fails}
 use Rattle.laws.proofs.Refusals.{state-alone}
 use Rattle.ranges.specs.Pairs.{pairsInside, firstBadInside, firstBadBeyond, PairsJudged}
 use Rattle.ranges.specs.Promises.{JudgeStateIs}
@@ -100,6 +101,21 @@ module _ (n : ℕ) (b o : List ℕ) where
 
   pub beyond-test : (i : ℕ) (r : Bool) → n ≤ i → r ≡ (eqb (b ! i) 0 && eqb (o ! i) 0) → r ≡ empty i
   beyond-test i r l e = e ∙ sym (rw (le-ltb i n l))
+
+  -- a sum of 0 so far: none so far has anything
+  pub nothing-on : (j sum x : ℕ) → (sum ≡ 0 → PassTo empty j) → n ≤ j → Reckoned 131072 (b ! j + o ! j) x → sum + x ≡ 0 → PassTo empty (j + 1)
+  nothing-on j sum x before l next e =
+      let is = next .is in
+      let none-left : b ! j ≡ 0 = omega arith in
+      let none-due : o ! j ≡ 0 = omega arith in
+      pass-next empty j (before (omega arith)) true (beyond-test j true l (sym (rw (none-left, none-due)))) refl
+
+  pub nothing-there : (j sum : ℕ) → (sum ≡ 0 → PassTo empty j) → 16 ≤ j → j ≤ 16 → eqb sum 0 ≡ true → firstBadBeyond n b o ≡ none
+  unfolding firstBadBeyond
+  nothing-there j sum all-of-them l k e = none-fails empty j (all-of-them (eqb-true sum 0 e)) 16 l k
+
+  pub good-there : firstBadBeyond n b o ≡ none → PairsJudged (firstBadBeyond n b o) verdict.Good
+  good-there e = says-good 3 state-alone _ e
 
   pub bad-beyond : (i : ℕ) → first 16 (λ j. not (empty j)) ≡ some i → PairsJudged (firstBadBeyond n b o) (verdict.Refused (BadPair i))
   unfolding firstBadBeyond

@@ -1,9 +1,11 @@
 // What is in range: a table and the pairs of a state, judged and refused by number.
 ghost use mathlib.Core.Path.{_≡_};
-ghost use mathlib.Core.Bool.{_&&_};
-ghost use Prim.Native.Nat.{_≤_};
+ghost use mathlib.Core.Bool.{true, _&&_};
+ghost use mathlib.Core.Option.{none};
+ghost use Prim.Native.Nat.{_+_, _≤_};
 ghost use lib.Dec.{eqb};
 ghost use Rattle.basis.specs.Words.{within};
+ghost use Rattle.basis.specs.Reckoned.{Reckoned};
 ghost use Rattle.rules.specs.Numbers.{partitionInRange};
 ghost use Rattle.ranges.specs.Pairs.{pairsInside, firstBadInside, firstBadBeyond, PairsJudged};
 ghost use Rattle.ranges.specs.Promises.{NumbersAre, JudgeTableIs, JudgeIndexIs, JudgeStateIs, JudgeIs};
@@ -154,11 +156,33 @@ fn judge_inside<'t, 's>(
     Verdict::Good
 }
 
+// A pair as one number, which is 0 where both are.
+fn both(b: u16, o: u16) -> u32
+    ensures { λ r. ⌜ Reckoned 131072 (b + o) r ⌝ }
+{
+    (b as u32) + (o as u32)
+}
+
+// None of the pairs from `n` on has anything. Nothing stops this sum halfway, so that several pairs are added at once.
+fn nothing_beyond<'s>(n: usize, b: &'s [u16; 16], o: &'s [u16; 16]) -> bool
+    requires { ⌜ n ≤ 16 ⌝ }
+    ensures { λ r. ⌜ (r ≡ true → firstBadBeyond n (now (b .entry)) (now (o .entry)) ≡ none) ⌝ }
+{
+    let mut sum = 0;
+    for j in n..16 {
+        sum += both(b[j], o[j]);
+    }
+    sum == 0
+}
+
 // Refusal 3, of the pairs from `n` on, which are beyond the table.
 fn judge_beyond<'s>(n: usize, b: &'s [u16; 16], o: &'s [u16; 16]) -> Verdict
     requires { ⌜ n ≤ 16 ⌝ }
     ensures { λ r. ⌜ PairsJudged (firstBadBeyond n (now (b .entry)) (now (o .entry))) r ⌝ }
 {
+    if nothing_beyond(n, b, o) {
+        return Verdict::Good;
+    }
     for j in n..16 {
         if !pair_is_zero(b[j], o[j]) {
             return Verdict::Refused(Refusal::BadPair(j));
