@@ -4,6 +4,7 @@ use mathlib.Core.Path.{_≡_, refl, sym, _∙_, ap}
 use mathlib.Core.Bool.{Bool}
 use mathlib.Core.List.{List}
 use mathlib.Core.Option.{some}
+use Rattle.rules.specs.Numbers.{Pairs}
 use Rattle.rules.specs.declared.Refusal.{Refusal}
 use Rattle.rules.specs.declared.Table.{Table}
 use Rattle.rules.specs.declared.Tasks.{Tasks}
@@ -17,7 +18,7 @@ use Rattle.ranges.specs.declared.Verdict.{Verdict}
 use Rattle.ranges.specs.declared.Verdict.the-variants as verdict
 use Rattle.tasks.specs.Promises.{JudgeTasksIs, JudgeTaskIs}
 use Rattle.busy.specs.Spans.{spanAs}
-use Rattle.busy.specs.Promises.{BusyLengthIs, PassesIs}
+use Rattle.busy.specs.Promises.{Found, BusyLengthIs, PassesIs, SearchIs}
 use Rattle.busy.specs.declared.Span.{Span}
 use Rattle.busy.specs.declared.Span.the-variants as span
 use Rattle.standing.specs.Answers.{testAs, lengthAs}
@@ -26,14 +27,13 @@ use Rattle.standing.specs.declared.Test.{Test}
 use Rattle.standing.specs.declared.Test.the-variants as test
 use Rattle.standing.specs.declared.Length.{Length}
 use Rattle.standing.specs.declared.Length.the-variants as length
-use Rattle.candidates.specs.Promises.{Listing, listedAs, SearchIs, MemberIs, CandidatesIs}
-use Rattle.candidates.specs.declared.Found.{Found}
+use Rattle.candidates.specs.Promises.{Listing, listedAs, MemberIs, CandidatesIs}
 use Rattle.candidates.specs.declared.Listed.{Listed}
 use Rattle.draw.specs.Promises.{Weighing, weighedAs, decisionAs, ChooseIs, WeightsAre, DecideIs}
 use Rattle.draw.specs.declared.Weighed.{Weighed}
 use Rattle.draw.specs.declared.Decision.{Decision}
 use Rattle.draw.specs.declared.Decision.the-variants as decided
-use Rattle.scheduler.specs.Promises.{Change, changedAs, FreshIs, JudgedIs, TickedIs, TickIs, ReleaseIs}
+use Rattle.scheduler.specs.Promises.{Change, changedAs, FreshIs, JudgedIs, PassTickIs, TickIs, ReleaseIs}
 use Rattle.runs.specs.Promises.{Step, steppedAs, Runs, ranAs, StepIs, RunIs}
 use Rattle.scheduler.specs.declared.State.{State}
 use Rattle.scheduler.specs.declared.Changed.{Changed}
@@ -220,6 +220,10 @@ module _ (n : ℕ) (T B phase b o : List ℕ) where
   pub choose-one : (word r s : ℕ) → ChooseIs n T B b o word r → ChooseIs n T B b o word s → r ≡ s
   choose-one word r s p q = p ∙ sym q
 
+  -- the lent pairs: each budget, and each o
+  pub pass-tick-one : (pick : ℕ) (bs os cs qs : List ℕ) → PassTickIs n T B b o pick bs os → PassTickIs n T B b o pick cs qs → (bs ≡ cs) × (os ≡ qs)
+  pass-tick-one pick bs os cs qs p q = (ap (λ (x : Pairs). x .b) (p ∙ sym q), ap (λ (x : Pairs). x .o) (p ∙ sym q))
+
 module _ (n m : ℕ) (partition p e : List ℕ) where
   pub judge-tasks-one : (r s : Verdict) → JudgeTasksIs n m partition p e r → JudgeTasksIs n m partition p e s → r ≡ s
   judge-tasks-one r s a b = verdict-injective r s (a ∙ sym b)
@@ -255,9 +259,6 @@ module _ (t : Table) (now : State) where
 
   pub judged-one : (r s : Verdict) → JudgedIs t now r → JudgedIs t now s → r ≡ s
   judged-one r s p q = verdict-injective r s (p ∙ sym q)
-
-  pub ticked-one : (n : ℕ) (T B : List ℕ) (pick : ℕ) (r s : State) → TickedIs n T B now pick r → TickedIs n T B now pick s → r ≡ s
-  ticked-one n T B pick r s p q = λ i. record { b = (p ∙ sym q) i .b; o = (p ∙ sym q) i .o }
 
   pub tick-one : (pick : ℕ) (r s : Changed) → TickIs t now pick r → TickIs t now pick s → r ≡ s
   tick-one pick r s p q = changed-injective r s (p ∙ sym q)

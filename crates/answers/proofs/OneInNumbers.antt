@@ -1,7 +1,8 @@
 -- Any two results in numbers that a promise allows are equal: answer, state and lent memory. A theorem for each public function of numbers and nandoquip.
 use Prim.Native.Nat.{ℕ}
-use mathlib.Core.Path.{_≡_, sym, _∙_}
+use mathlib.Core.Path.{_≡_, sym, _∙_, ap}
 use mathlib.Core.List.{List}
+use Rattle.rules.specs.declared.Part.{Part}
 use Rattle.rules.specs.declared.Table.{Table}
 use Rattle.rules.specs.declared.Tasks.{Tasks}
 use Rattle.standing.specs.declared.Test.{Test}
@@ -13,6 +14,7 @@ use Rattle.scheduler.specs.declared.State.{State}
 use Rattle.scheduler.specs.declared.Changed.{Changed}
 use Rattle.responses.specs.declared.Response.{Response}
 use Rattle.numbers.specs.Promises.{TestNumbersAre, LengthNumbersAre, ResponseNumbersAre, PickNumbersAre, ChangeNumbersAre, ListNumbersAre, WeightNumbersAre, TurnIs, TurnForIs, ReleasedIs}
+use Rattle.numbers.specs.declared.RefusalNumbers.{RefusalNumbers}
 use Rattle.numbers.specs.declared.Picked.{Picked}
 use Rattle.numbers.specs.declared.Tested.{Tested}
 use Rattle.numbers.specs.declared.Lasting.{Lasting}
@@ -21,6 +23,7 @@ use Rattle.numbers.specs.declared.After.{After}
 use Rattle.numbers.specs.declared.ListNumbers.{ListNumbers}
 use Rattle.numbers.specs.declared.WeightNumbers.{WeightNumbers}
 use Rattle.numbers.specs.declared.Turned.{Turned}
+use Rattle.nandoquip.specs.Hook.{TableOfIs, HookTickIs, HookTickForIs, HookReleaseIs}
 use Rattle.nandoquip.specs.Calls.{FreshInNumbers, AdmissionInNumbers, PartitionResponseInNumbers, StandingInNumbers, BusyLengthInNumbers, CandidatesInNumbers, WeightsInNumbers, DecideInNumbers, RunInNumbers, TaskResponseInNumbers}
 
 -- ---- numbers
@@ -88,3 +91,18 @@ module _ (t : Table) (now : State) where
   -- the answer with its state, and the buffer
   pub nandoquip-run-one : (words buffer : List ℕ) (r s : After) (x y : List ℕ) → RunInNumbers t now words buffer r x → RunInNumbers t now words buffer s y → (r ≡ s) × (x ≡ y)
   nandoquip-run-one words buffer r s x y p q = (p .answer ∙ sym (q .answer), p .lent ∙ sym (q .lent))
+
+-- ---- the hook: the answer, and the state where it stands
+module _ (parts : List Part) where
+  pub nandoquip-table-of-one : (r s : Table) → TableOfIs parts r → TableOfIs parts s → r ≡ s
+  nandoquip-table-of-one r s p q = p ∙ sym q
+
+  module _ (before after last : State) where
+    pub nandoquip-tick-one : (word : ℕ) (r s : Picked) → HookTickIs parts before word r after → HookTickIs parts before word s last → (r ≡ s) × (after ≡ last)
+    nandoquip-tick-one word r s p q = (ap (λ (x : Turned). x .picked) (p ∙ sym q), ap (λ (x : Turned). x .state) (p ∙ sym q))
+
+    pub nandoquip-tick-for-one : (pick : ℕ) (r s : RefusalNumbers) → HookTickForIs parts before pick r after → HookTickForIs parts before pick s last → (r ≡ s) × (after ≡ last)
+    nandoquip-tick-for-one pick r s p q = (ap (λ (x : After). x .refusal) (p ∙ sym q), ap (λ (x : After). x .state) (p ∙ sym q))
+
+    pub nandoquip-release-one : (index : ℕ) (r s : RefusalNumbers) → HookReleaseIs parts before index r after → HookReleaseIs parts before index s last → (r ≡ s) × (after ≡ last)
+    nandoquip-release-one index r s p q = (ap (λ (x : After). x .refusal) (p ∙ sym q), ap (λ (x : After). x .state) (p ∙ sym q))
