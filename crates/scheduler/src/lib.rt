@@ -47,7 +47,7 @@ fn fresh_start(t: Table) -> State
     State { b, o }
 }
 
-// A picked partition loses one of b. Idle stands beyond the sixteen.
+// A picked partition loses one of b. Idle stands beyond the sixteen. A slice's length is known in the proof, an array's behind a reference is not.
 fn spend_one(b: &mut [u16], pick: usize)
     requires { ⌜ Seq.length (now b) ≡ 16 ⌝ }
     ensures { λ _. ⌜ now (b .exit) ≡ spend (now (b .entry)) pick ⌝ }
@@ -62,7 +62,7 @@ fn spend_one(b: &mut [u16], pick: usize)
     b[pick] = left - 1;
 }
 
-// How many of `n` partitions have a pair.
+// How many of `n` partitions have a pair, of which there are sixteen.
 fn paired(n: usize, o: &[u16]) -> usize
     ensures { λ r. ⌜ r ≡ paired n (Seq.length (now (o .entry))) ⌝ }
 {
