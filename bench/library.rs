@@ -6,10 +6,10 @@ use crate::plain::{Part, State};
 #[repr(C)]
 #[derive(Clone, Copy)]
 pub struct Table {
-    count: usize,
     period: [u16; 16],
     budget: [u16; 16],
     phase: [u16; 16],
+    count: usize,
 }
 
 #[repr(C)]

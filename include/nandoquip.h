@@ -44,10 +44,10 @@ struct nandoquip_part {
 
 /* A partition table: 1 to 16 partitions, index 0 having the highest rank. Entries from `count` on don't count. */
 struct nandoquip_table {
-    size_t count;
     uint16_t period[16];
     uint16_t budget[16];
     uint16_t phase[16];
+    size_t count;
 };
 
 /* A task table: at most 64. Each task names a partition, its shortest gap (1 to 65,535) and its cost (1 to the

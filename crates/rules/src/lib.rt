@@ -11,10 +11,10 @@ pub struct Part {
 // The partition table. Index 0 has the highest rank. Entries from `count` on are no part of it.
 #[repr(C)]
 pub struct Table {
-    pub count: usize,
     pub period: [u16; 16],
     pub budget: [u16; 16],
     pub phase: [u16; 16],
+    pub count: usize,
 }
 
 // A task: the partition that it runs in, its shortest gap p and its cost e, in ticks.
