@@ -1,0 +1,82 @@
+//! The many random tables and states: every call of the C face over each.
+
+use crate::calls::{self, Call, Difference};
+use crate::case::{self, Case};
+use crate::coverage::Coverage;
+use crate::random::Random;
+use crate::shrink;
+
+/// Steps tried at most to make a case smaller.
+const MOST_TRIALS: usize = 2_000_000;
+/// Task responses are asked over one case in so many.
+const TASKS_IN: usize = 4;
+
+/// A call that differs, and over what.
+#[derive(Clone)]
+pub struct Found {
+    pub call: Call,
+    pub case: Case,
+}
+
+pub struct Cases {
+    pub coverage: Coverage,
+    /// Tables by their count: none, 1 to 16, more.
+    pub counts: [u64; 18],
+    pub found: Option<Found>,
+}
+
+fn try_call(done: &mut Cases, call: Call, case: &Case) {
+    match calls::compare(call, case) {
+        Ok(met) => done.coverage.count(call, &met),
+        Err(_) => {
+            let case = case.clone();
+            done.found.get_or_insert(Found { call, case });
+        }
+    }
+}
+
+/// Stops at the first case with a difference.
+pub fn many(seed: u64, count: usize) -> Cases {
+    let mut random = Random::new(seed);
+    let mut done = Cases {
+        coverage: Coverage::none(),
+        counts: [0; 18],
+        found: None,
+    };
+    for place in 0..count {
+        let with_tasks = place % TASKS_IN == 0;
+        let case = case::random(&mut random, with_tasks);
+        done.counts[case.table.count.min(17)] += 1;
+        for call in calls::WITHOUT_TASKS {
+            try_call(&mut done, call, &case);
+        }
+        if with_tasks {
+            try_call(&mut done, Call::TaskResponse, &case);
+        }
+        if done.found.is_some() {
+            break;
+        }
+    }
+    done
+}
+
+fn difference(found: &Found) -> Option<Difference> {
+    calls::compare(found.call, &found.case).err()
+}
+
+/// The smallest case found, in words; None where the call doesn't differ when made alone.
+pub fn told(found: &Found) -> Option<String> {
+    difference(found)?;
+    let call = found.call;
+    let case = shrink::smallest(&found.case, MOST_TRIALS, case::smaller, |case| {
+        calls::compare(call, case).is_err()
+    });
+    let difference = calls::compare(call, &case).err()?;
+    Some(format!(
+        "differs: {}\n{}  01's rules give: {}\n  the library gave: {}\n",
+        call.name(),
+        case::told(&case, call),
+        difference.rules,
+        difference.library,
+    ))
+}

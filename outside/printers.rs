@@ -1,0 +1,198 @@
+//! The two printers as programs: each file goes to both on standard input, and what they write is compared.
+
+use crate::files::{self, Records, Sort};
+use crate::meter;
+use crate::random::Random;
+use crate::shrink;
+use std::io::{Read, Write};
+use std::process::{Command, Stdio};
+
+/// Steps tried at most to make a file smaller: each starts a program.
+const MOST_TRIALS: usize = 6000;
+
+#[derive(Clone, Copy, Debug, PartialEq, Eq)]
+pub enum Printer {
+    Schedule,
+    Response,
+}
+
+/// Where the two programs are.
+pub struct Programs {
+    pub schedule: String,
+    pub response: String,
+}
+
+/// A file over which a printer differs.
+pub struct Found {
+    pub printer: Printer,
+    pub file: Records,
+}
+
+#[derive(Default)]
+pub struct Files {
+    pub files: u64,
+    pub bytes: u64,
+    /// Outputs of the schedule printer by how they end: 0 for whole, or the refusal.
+    pub schedule: [u64; 10],
+    pub response: [u64; 10],
+    pub late: u64,
+    pub in_time: u64,
+    pub found: Option<Found>,
+    /// A file that isn't refused as its sort should be: a fault of this program.
+    pub mislabelled: Option<String>,
+}
+
+impl Programs {
+    fn path(&self, printer: Printer) -> &str {
+        match printer {
+            Printer::Schedule => &self.schedule,
+            Printer::Response => &self.response,
+        }
+    }
+
+    /// What the program writes. One that can't be started, or is killed, says so in place of it.
+    fn output(&self, printer: Printer, file: &[u8]) -> Vec<u8> {
+        let path = self.path(printer);
+        self.try_output(path, file)
+            .unwrap_or_else(|error| format!("{path}: {error}\n").into_bytes())
+    }
+
+    fn try_output(&self, path: &str, file: &[u8]) -> std::io::Result<Vec<u8>> {
+        let mut child = Command::new(path)
+            .stdin(Stdio::piped())
+            .stdout(Stdio::piped())
+            .spawn()?;
+        if let Some(mut input) = child.stdin.take() {
+            // A printer may stop reading a file that is over the limit: that is no error.
+            let _ = input.write_all(file);
+        }
+        let mut written = Vec::new();
+        if let Some(mut output) = child.stdout.take() {
+            output.read_to_end(&mut written)?;
+        }
+        let status = child.wait()?;
+        if status.code().is_none() {
+            written.extend(format!("ended by {status}\n").bytes());
+        }
+        Ok(written)
+    }
+}
+
+fn due(printer: Printer, file: &[u8]) -> String {
+    match printer {
+        Printer::Schedule => meter::schedule(file),
+        Printer::Response => meter::response(file),
+    }
+}
+
+/// How an output ends: 0 for the line `end`, or the number of the refusal.
+fn ending(output: &str) -> usize {
+    let last = output.lines().last().unwrap_or("");
+    let number = last
+        .strip_prefix("refused ")
+        .and_then(|rest| rest.split(' ').next());
+    number.and_then(|number| number.parse().ok()).unwrap_or(0)
+}
+
+fn try_printer(done: &mut Files, programs: &Programs, printer: Printer, file: &Records) -> usize {
+    let bytes = files::bytes(file);
+    let due = due(printer, &bytes);
+    if programs.output(printer, &bytes) != due.as_bytes() {
+        let file = file.clone();
+        done.found.get_or_insert(Found { printer, file });
+    }
+    let ending = ending(&due);
+    match printer {
+        Printer::Schedule => done.schedule[ending] += 1,
+        Printer::Response => {
+            done.response[ending] += 1;
+            let late = due.lines().filter(|line| line.ends_with("late")).count() as u64;
+            let lines = due.lines().count() as u64;
+            done.late += late;
+            done.in_time += lines.saturating_sub(2 + late);
+        }
+    }
+    ending
+}
+
+fn try_file(done: &mut Files, programs: &Programs, sort: Sort, file: &Records) {
+    done.files += 1;
+    done.bytes += files::bytes(file).len() as u64;
+    let ending = try_printer(done, programs, Printer::Schedule, file);
+    try_printer(done, programs, Printer::Response, file);
+    let label = files::SORTS.iter().find(|(each, _, _)| *each == sort);
+    if let Some(&(_, _, Some(refusal))) = label {
+        if ending != refusal as usize {
+            let text = format!("{sort:?} should end in {refusal}\n{}", files::told(file));
+            done.mislabelled.get_or_insert(text);
+        }
+    }
+}
+
+/// The files at `from`, `from + step`, and so on. Stops at the first difference.
+pub fn many(seed: u64, programs: &Programs, from: usize, step: usize, count: usize) -> Files {
+    let mut done = Files::default();
+    for place in (from..count).step_by(step) {
+        let sort = files::sort_at(place);
+        let mut random = Random::new(seed + place as u64);
+        let file = files::random(&mut random, sort);
+        try_file(&mut done, programs, sort, &file);
+        if done.found.is_some() || done.mislabelled.is_some() {
+            break;
+        }
+    }
+    done
+}
+
+impl Files {
+    pub fn add(&mut self, other: Files) {
+        self.files += other.files;
+        self.bytes += other.bytes;
+        for place in 0..10 {
+            self.schedule[place] += other.schedule[place];
+            self.response[place] += other.response[place];
+        }
+        self.late += other.late;
+        self.in_time += other.in_time;
+        self.found = self.found.take().or(other.found);
+        self.mislabelled = self.mislabelled.take().or(other.mislabelled);
+    }
+}
+
+// In words.
+
+/// The lines of an output around the first place where the two differ.
+fn around(output: &str, other: &str) -> String {
+    let pairs = output.lines().zip(other.lines());
+    let differ = pairs.take_while(|(one, two)| one == two).count();
+    let from = differ.saturating_sub(20);
+    let mut text = String::new();
+    if from > 0 {
+        text += &format!("    ({from} lines that are the same)\n");
+    }
+    for line in output.lines().skip(from).take(40) {
+        text += &format!("    {line}\n");
+    }
+    text
+}
+
+/// The smallest file found, in words.
+pub fn told(found: &Found, programs: &Programs) -> String {
+    let printer = found.printer;
+    let differs = |file: &Records| {
+        let bytes = files::bytes(file);
+        programs.output(printer, &bytes) != due(printer, &bytes).as_bytes()
+    };
+    let file = shrink::smallest(&found.file, MOST_TRIALS, files::smaller, differs);
+    let bytes = files::bytes(&file);
+    let due = due(printer, &bytes);
+    let wrote = String::from_utf8_lossy(&programs.output(printer, &bytes)).into_owned();
+    let mut text = format!("differs: the printer {}\n", programs.path(printer));
+    text += &files::told(&file);
+    text += &format!("  01's rules give:\n{}", around(&due, &wrote));
+    text += &format!("  the printer wrote:\n{}", around(&wrote, &due));
+    if due.lines().eq(wrote.lines()) {
+        text += &format!("  the lines are the same, the bytes aren't: {due:?} and {wrote:?}\n");
+    }
+    text
+}
