@@ -240,7 +240,7 @@ fn task_response(case: &Case) -> Compared {
 
 const PAST_THE_END: usize = 24;
 
-#[derive(Debug, PartialEq)]
+#[derive(PartialEq)]
 struct Ran {
     answer: Changed,
     buffer: Vec<u8>,
@@ -250,6 +250,26 @@ struct Ran {
 /// No pick has any of these values.
 fn unwritten(length: usize) -> Vec<u8> {
     (0..length).map(|place| 96 + (place % 32) as u8).collect()
+}
+
+/// A byte that is as it was lent is shown as a dot, and a bar stands at the end of the room.
+impl Debug for Ran {
+    fn fmt(&self, f: &mut std::fmt::Formatter) -> std::fmt::Result {
+        write!(
+            f,
+            "{:?}, words kept: {}, buffer",
+            self.answer, self.words_kept
+        )?;
+        let room = self.buffer.len() - PAST_THE_END;
+        for (place, lent) in unwritten(self.buffer.len()).into_iter().enumerate() {
+            let bar = if place == room { " |" } else { "" };
+            match self.buffer[place] {
+                byte if byte == lent => write!(f, "{bar} .")?,
+                byte => write!(f, "{bar} {byte}")?,
+            }
+        }
+        Ok(())
+    }
 }
 
 fn run(case: &Case) -> Compared {

@@ -2,7 +2,7 @@
 
 use crate::calls::Call;
 use crate::random::Random;
-use crate::rules::{Part, State, Table, Tasks, IDLE, MOST_PARTITIONS, MOST_TASKS};
+use crate::rules::{self, Part, State, Table, Tasks, IDLE, MOST_PARTITIONS, MOST_TASKS};
 use crate::shrink::{lower, Steps};
 use crate::tables;
 use std::fmt::Write;
@@ -90,7 +90,11 @@ fn asked(r: &mut Random, count: usize) -> usize {
 }
 
 fn some_words(r: &mut Random, t: &Table, s: &State) -> Vec<u32> {
-    let most = r.of(&[0, 1, 2, 6, 12]);
+    let most = if r.one_in(64) {
+        200
+    } else {
+        r.of(&[0, 1, 2, 6, 12])
+    };
     let mut words: Vec<u32> = (0..r.between(most / 2, most))
         .map(|_| tables::word(r))
         .collect();
@@ -108,13 +112,18 @@ fn some_room(r: &mut Random, words: usize) -> usize {
     }
 }
 
+/// Mostly 0 to 2; else about as long as the deadline allows, or far too long.
 fn some_inversion(r: &mut Random, t: &Table, s: &State, h: usize) -> u32 {
-    let deadline = t.period.get(h).map_or(1, |&period| period) / 2;
-    let spare = s.o.get(h).map_or(1, |&o| o);
-    match r.below(8) {
-        0 => r.of(&[u32::MAX, u32::MAX - 1, 1 << 31, 1 << 16]),
-        1 => r.field(0, deadline).into(),
-        2 => r.field(0, spare).into(),
+    if r.one_in(8) {
+        return r.of(&[u32::MAX, u32::MAX - 1, 1 << 31, 1 << 16]);
+    }
+    let Ok(Some(length)) = rules::busy_length(t, s, h, 0) else {
+        return r.below(3) as u32;
+    };
+    let spare = u32::from(s.o[h]).saturating_sub(length as u32);
+    match r.below(4) {
+        0 => r.below(spare as usize + 1) as u32,
+        1 => spare + r.below(2) as u32,
         _ => r.below(3) as u32,
     }
 }
@@ -179,7 +188,7 @@ fn one_less_past(number: &mut usize, h: usize) {
 }
 
 /// The case without partition h; its tasks go too.
-fn without_partition(case: &Case, h: usize) -> Case {
+pub fn without_partition(case: &Case, h: usize) -> Case {
     let mut c = case.clone();
     c.table.count -= 1;
     for list in [
@@ -238,7 +247,7 @@ fn fewer(case: &Case) -> Vec<Case> {
 }
 
 /// Every case in which one number of one place is less.
-fn lower_fields(case: &Case) -> Vec<Case> {
+pub fn lower_fields(case: &Case) -> Vec<Case> {
     type Field = fn(&mut Case, usize) -> &mut u16;
     let pairs: [Field; 5] = [
         |c, h| &mut c.table.period[h],
@@ -315,37 +324,49 @@ pub fn smaller(case: &Case) -> Steps<'_, Case> {
 
 // In words.
 
-fn rows(case: &Case, with_state: bool) -> String {
-    let mut text = String::from("  partition      T      B  phase");
-    text += if with_state { "      b      o\n" } else { "\n" };
-    for h in 0..MOST_PARTITIONS {
-        let (t, s) = (&case.table, &case.state);
-        let fields = [t.period[h], t.budget[h], t.phase[h]];
-        let pair = [s.b[h], s.o[h]];
-        let beyond = h >= t.count;
-        if beyond && fields == [0; 3] && (pair == [0; 2] || !with_state) {
-            continue;
-        }
-        let numbers = if with_state {
-            [&fields[..], &pair].concat()
-        } else {
-            fields.to_vec()
+/// Rows of numbers, each after its index. Equal rows that follow each other are said once.
+fn rows(found: &[(usize, String)]) -> String {
+    let mut text = String::new();
+    for same in found.chunk_by(|one, next| one.1 == next.1) {
+        let (first, last) = (same[0].0, same[same.len() - 1].0);
+        let places = match same.len() {
+            1 => format!("{first}"),
+            _ => format!("{first} to {last}"),
         };
-        let numbers: String = numbers.iter().map(|n| format!("{n:>7}")).collect();
-        let note = if beyond { "  beyond the table" } else { "" };
-        let _ = writeln!(text, "  {h:>9}{numbers}{note}");
+        let _ = writeln!(text, "  {places:>9}{}", same[0].1);
     }
     text
 }
 
+fn in_columns(numbers: &[u16]) -> String {
+    numbers.iter().map(|n| format!("{n:>7}")).collect()
+}
+
+pub fn partition_rows(case: &Case, with_state: bool) -> String {
+    let (t, s) = (&case.table, &case.state);
+    let mut found = Vec::new();
+    for h in 0..MOST_PARTITIONS {
+        let mut numbers = vec![t.period[h], t.budget[h], t.phase[h]];
+        if with_state {
+            numbers.extend([s.b[h], s.o[h]]);
+        }
+        let beyond = h >= t.count;
+        if beyond && numbers.iter().all(|&n| n == 0) {
+            continue;
+        }
+        let note = if beyond { "  beyond the table" } else { "" };
+        found.push((h, in_columns(&numbers) + note));
+    }
+    let pair = if with_state { "      b      o" } else { "" };
+    format!("  partition      T      B  phase{pair}\n{}", rows(&found))
+}
+
 fn task_rows(case: &Case) -> String {
     let k = &case.tasks;
-    let mut text = format!("  tasks: {}\n       task  partition   p      e\n", k.count);
-    for x in 0..k.count.min(MOST_TASKS) {
-        let (home, gap, cost) = (k.partition[x], k.gap[x], k.cost[x]);
-        let _ = writeln!(text, "  {x:>9} {home:>7} {gap:>7} {cost:>6}");
-    }
-    text
+    let row = |x| (x, in_columns(&[k.partition[x], k.gap[x], k.cost[x]]));
+    let found: Vec<_> = (0..k.count.min(MOST_TASKS)).map(row).collect();
+    let head = "       task     of      p      e";
+    format!("  tasks: {}\n{head}\n{}", k.count, rows(&found))
 }
 
 /// The parts of a case that a call is given.
@@ -354,7 +375,7 @@ pub fn told(case: &Case, call: Call) -> String {
     if call.takes_records() && case.table.count > MOST_RECORDS {
         let _ = writeln!(text, "  records lent: {MOST_RECORDS}");
     }
-    text += &rows(case, call.takes_state());
+    text += &partition_rows(case, call.takes_state());
     if call == Call::TaskResponse {
         text += &task_rows(case);
     }

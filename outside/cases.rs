@@ -1,13 +1,16 @@
 //! The many random tables and states: every call of the C face over each.
 
-use crate::calls::{self, Call, Difference};
+use crate::calls::{self, Call};
 use crate::case::{self, Case};
 use crate::coverage::Coverage;
 use crate::random::Random;
-use crate::shrink;
+use crate::shrink::Shrink;
 
-/// Steps tried at most to make a case smaller.
-const MOST_TRIALS: usize = 2_000_000;
+const SHRINK: Shrink<Case> = Shrink {
+    smaller: case::smaller,
+    cost: |_| 1,
+    budget: 2_000_000,
+};
 /// Task responses are asked over one case in so many.
 const TASKS_IN: usize = 4;
 
@@ -60,17 +63,14 @@ pub fn many(seed: u64, count: usize) -> Cases {
     done
 }
 
-fn difference(found: &Found) -> Option<Difference> {
-    calls::compare(found.call, &found.case).err()
-}
-
 /// The smallest case found, in words; None where the call doesn't differ when made alone.
 pub fn told(found: &Found) -> Option<String> {
-    difference(found)?;
     let call = found.call;
-    let case = shrink::smallest(&found.case, MOST_TRIALS, case::smaller, |case| {
-        calls::compare(call, case).is_err()
-    });
+    let differs = |case: &Case| calls::compare(call, case).is_err();
+    if !differs(&found.case) {
+        return None;
+    }
+    let case = SHRINK.smallest(&found.case, differs);
     let difference = calls::compare(call, &case).err()?;
     Some(format!(
         "differs: {}\n{}  01's rules give: {}\n  the library gave: {}\n",

@@ -3,7 +3,7 @@
 use crate::meter::LONGEST_FILE;
 use crate::random::Random;
 use crate::rules::{self, Table, Tasks, IDLE, MOST_PARTITIONS, MOST_TASKS};
-use crate::shrink::{lower, Steps};
+use crate::shrink::{lower, shorter, Steps};
 use crate::tables;
 use std::fmt::Write;
 
@@ -392,19 +392,6 @@ pub fn random(r: &mut Random, sort: Sort) -> Records {
 
 // Smaller.
 
-/// The file without a stretch of records, the long stretches first.
-fn fewer(file: &Records) -> impl Iterator<Item = Records> + '_ {
-    let lengths = (0..usize::BITS).rev().map(|bits| 1usize << bits);
-    let lengths = lengths.filter(|&length| length <= file.len());
-    lengths.flat_map(move |length| {
-        (0..=file.len() - length).step_by(length).map(move |from| {
-            let mut next = file.clone();
-            next.drain(from..from + length);
-            next
-        })
-    })
-}
-
 /// The file with one number lower, or one record cut by a byte.
 fn lower_numbers(file: &Records) -> impl Iterator<Item = Records> + '_ {
     let places = (0..file.len())
@@ -420,7 +407,7 @@ fn lower_numbers(file: &Records) -> impl Iterator<Item = Records> + '_ {
 }
 
 pub fn smaller(file: &Records) -> Steps<'_, Records> {
-    Box::new(fewer(file).chain(lower_numbers(file)))
+    Box::new(shorter(file).chain(lower_numbers(file)))
 }
 
 // In words.

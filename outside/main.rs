@@ -7,6 +7,7 @@ mod case;
 mod cases;
 mod coverage;
 mod files;
+mod history;
 mod meter;
 mod printers;
 mod random;
@@ -102,27 +103,27 @@ fn runs() -> Part {
     let each = TICKS / THREADS as u64;
     let all = on_threads(|number| runs::many(RUN_SEED + number as u64, each));
     let faults = all.iter().filter_map(|done| done.fault.as_ref());
-    shortest(
-        faults
-            .map(|fault| {
-                let smallest = fault.found.as_ref().and_then(cases::told);
-                smallest.unwrap_or_else(|| fault.history.clone())
-            })
-            .collect(),
-    )?;
-    let sum = |of: fn(&runs::Runs) -> u64| all.iter().map(of).sum::<u64>();
-    let (ticks, releases) = (sum(|r| r.ticks), sum(|r| r.releases));
-    let (refused, periods) = (sum(|r| r.refused), sum(|r| r.periods));
+    shortest(faults.map(runs::told).collect())?;
+    let mut sum = runs::Counts::default();
+    for done in &all {
+        sum.add(&done.counts);
+    }
     let rare = [
-        rarely("ticks of runs", ticks, 100_000),
-        rarely("releases", releases, 10_000),
-        rarely("refused ticks and releases", refused, 10_000),
-        rarely("whole periods", periods, 50_000),
+        rarely("ticks of runs", sum.ticks, 100_000),
+        rarely("releases", sum.releases, 10_000),
+        rarely("refused ticks and releases", sum.refused, 10_000),
+        rarely("whole periods", sum.periods, 50_000),
     ];
     enough(rare.into_iter().flatten().collect())?;
+    let runs::Counts {
+        runs,
+        ticks,
+        releases,
+        refused,
+        periods,
+    } = sum;
     Ok(format!(
-        "runs: {} fresh starts, {ticks} ticks, {releases} releases, {refused} refused; in all of {periods} whole periods the budget was used to the tick\n",
-        sum(|r| r.runs)
+        "runs: {runs} fresh starts, {ticks} ticks, {releases} releases, {refused} refused, all equal\n  in each of {periods} whole periods the budget was used to the tick\n"
     ))
 }
 

@@ -3,12 +3,16 @@
 use crate::files::{self, Records, Sort};
 use crate::meter;
 use crate::random::Random;
-use crate::shrink;
+use crate::shrink::Shrink;
 use std::io::{Read, Write};
 use std::process::{Command, Stdio};
 
-/// Steps tried at most to make a file smaller: each starts a program.
-const MOST_TRIALS: usize = 6000;
+/// A trial starts a program, and that takes as long as some twenty records.
+const SHRINK: Shrink<Records> = Shrink {
+    smaller: files::smaller,
+    cost: |file| 20 + file.len(),
+    budget: 500_000,
+};
 
 #[derive(Clone, Copy, Debug, PartialEq, Eq)]
 pub enum Printer {
@@ -183,7 +187,7 @@ pub fn told(found: &Found, programs: &Programs) -> String {
         let bytes = files::bytes(file);
         programs.output(printer, &bytes) != due(printer, &bytes).as_bytes()
     };
-    let file = shrink::smallest(&found.file, MOST_TRIALS, files::smaller, differs);
+    let file = SHRINK.smallest(&found.file, differs);
     let bytes = files::bytes(&file);
     let due = due(printer, &bytes);
     let wrote = String::from_utf8_lossy(&programs.output(printer, &bytes)).into_owned();

@@ -43,7 +43,7 @@ pub struct Tasks {
 
 /// "A state holds 16 pairs: remaining budget b and ticks o until the next replenishment."
 #[repr(C)]
-#[derive(Clone, Copy, Debug, PartialEq, Eq)]
+#[derive(Clone, Copy, PartialEq, Eq)]
 pub struct State {
     pub b: [u16; 16],
     pub o: [u16; 16],
@@ -93,6 +93,16 @@ impl State {
         b: [0; 16],
         o: [0; 16],
     };
+}
+
+/// The pairs b/o up to the last that isn't 0/0.
+impl std::fmt::Debug for State {
+    fn fmt(&self, f: &mut std::fmt::Formatter) -> std::fmt::Result {
+        let none = |&h: &usize| self.b[h] == 0 && self.o[h] == 0;
+        let last = (0..MOST_PARTITIONS).rfind(|h| !none(h));
+        let pairs = (0..=last.unwrap_or(0)).map(|h| format!("{}/{}", self.b[h], self.o[h]));
+        write!(f, "b/o {}", pairs.collect::<Vec<_>>().join(" "))
+    }
 }
 
 impl List {

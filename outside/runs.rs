@@ -4,18 +4,11 @@
 use crate::c_face::{self, Answer, Changed, Picked};
 use crate::calls::Call;
 use crate::case::Case;
-use crate::cases::Found;
+use crate::cases::{self, Found};
+use crate::history::{Event, History};
 use crate::random::Random;
 use crate::rules::{self, Part, State, Table, IDLE};
 use crate::tables;
-
-/// What the kernel does next.
-#[derive(Clone, Copy, Debug)]
-enum Event {
-    Word(u32),
-    For(usize),
-    Release(usize),
-}
 
 /// What each partition ran and gave up since its last replenishment.
 struct Ledger {
@@ -25,29 +18,36 @@ struct Ledger {
     whole: [bool; 16],
 }
 
+/// What was met, counted.
 #[derive(Default)]
-pub struct Runs {
+pub struct Counts {
     pub runs: u64,
     pub ticks: u64,
     pub releases: u64,
     pub refused: u64,
     pub periods: u64,
+}
+
+#[derive(Default)]
+pub struct Runs {
+    pub counts: Counts,
     pub fault: Option<Fault>,
 }
 
 /// What went wrong, and everything that led to it.
 pub struct Fault {
-    pub found: Option<Found>,
-    pub history: String,
+    what: String,
+    found: Option<Found>,
+    history: History,
 }
 
 struct Run {
-    table: Table,
+    history: History,
     parts: Vec<Part>,
     rules: State,
     library: State,
     ledger: Ledger,
-    events: Vec<Event>,
+    counts: Counts,
 }
 
 impl Ledger {
@@ -81,92 +81,94 @@ impl Ledger {
 impl Run {
     fn start(table: Table) -> Result<Run, Fault> {
         let mut run = Run {
-            table,
+            history: History::of(table),
             parts: Case::of(table, State::NONE).parts(),
             rules: rules::fresh_pairs(&table),
             library: State::NONE,
             ledger: Ledger::start(&table),
-            events: Vec::new(),
+            counts: Counts::default(),
         };
         let gave = c_face::fresh(&State::NONE, &table);
-        if gave != Changed::due(rules::fresh(&table), &State::NONE) {
-            let case = Case::of(table, State::NONE);
-            let call = Call::Fresh;
-            return Err(run.fault("fresh start differs", Some(Found { call, case })));
+        let due = Changed::due(rules::fresh(&table), &State::NONE);
+        if gave != due {
+            return Err(run.differs(Call::Fresh, State::NONE, format!("{due:?} but {gave:?}")));
         }
         run.library = gave.state;
+        run.counts.runs = 1;
         Ok(run)
     }
 
-    fn fault(&self, what: &str, found: Option<Found>) -> Fault {
-        let count = self.table.count;
-        let table: Vec<_> = self.parts[..count].iter().collect();
-        let history = format!(
-            "{what}, over an admitted table from its fresh start\n  table: {table:?}\n  events: {:?}\n",
-            self.events
-        );
-        Fault { found, history }
-    }
-
-    fn differs(&self, call: Call, before: State) -> Fault {
-        let mut case = Case::of(self.table, before);
-        match self.events.last() {
+    fn differs(&self, call: Call, before: State, both: String) -> Fault {
+        let history = self.history.clone();
+        let mut case = Case::of(history.table, before);
+        match history.events.last() {
             Some(&Event::Word(word)) => case.words = vec![word],
             Some(&Event::For(pick)) => case.pick = pick,
             Some(&Event::Release(index)) => case.index = index,
             None => (),
         }
-        let what = format!("differs: {}", call.name());
-        self.fault(&what, Some(Found { call, case }))
+        Fault {
+            what: format!("differs: {}: {both}", call.name()),
+            found: Some(Found { call, case }),
+            history,
+        }
     }
 
-    fn settle(&mut self, done: &mut Runs, before: &State, pick: usize) -> Result<(), Fault> {
-        done.ticks += 1;
-        match self.ledger.tick(&self.table, before, pick) {
-            Ok(periods) => done.periods += periods,
+    /// Both answers, then both states.
+    fn both(&self, due: impl std::fmt::Debug, gave: impl std::fmt::Debug) -> String {
+        format!("{due:?} {:?} but {gave:?} {:?}", self.rules, self.library)
+    }
+
+    fn settle(&mut self, before: &State, pick: usize) -> Result<(), Fault> {
+        self.counts.ticks += 1;
+        match self.ledger.tick(&self.history.table, before, pick) {
+            Ok(periods) => self.counts.periods += periods,
             Err(h) => {
-                let what = format!("the guarantee fails: partition {h} lost some of its budget");
-                return Err(self.fault(&what, None));
+                return Err(Fault {
+                    what: format!("the guarantee fails: partition {h} lost some of its budget"),
+                    found: None,
+                    history: self.history.clone(),
+                })
             }
         }
         Ok(())
     }
 
-    fn word(&mut self, done: &mut Runs, word: u32) -> Result<(), Fault> {
+    fn word(&mut self, word: u32) -> Result<(), Fault> {
         let before = self.rules;
         let due = Picked::due(rules::hook_tick(&mut self.rules, &self.parts, word));
         let gave = c_face::tick(&mut self.library, &self.parts, word);
         if due != gave || self.rules != self.library {
-            return Err(self.differs(Call::Tick, before));
+            return Err(self.differs(Call::Tick, before, self.both(due, gave)));
         }
-        self.settle(done, &before, gave.pick as usize)
+        self.settle(&before, gave.pick as usize)
     }
 
-    fn tick_for(&mut self, done: &mut Runs, pick: usize) -> Result<(), Fault> {
+    fn tick_for(&mut self, pick: usize) -> Result<(), Fault> {
         let before = self.rules;
         let due = Answer::due(rules::hook_tick_for(&mut self.rules, &self.parts, pick));
         let gave = c_face::tick_for(&mut self.library, &self.parts, pick);
         if due != gave || self.rules != self.library {
-            return Err(self.differs(Call::TickFor, before));
+            return Err(self.differs(Call::TickFor, before, self.both(due, gave)));
         }
         if gave.refusal > 0 {
-            done.refused += 1;
+            self.counts.refused += 1;
             return Ok(());
         }
-        self.settle(done, &before, pick)
+        self.settle(&before, pick)
     }
 
-    fn release(&mut self, done: &mut Runs, index: usize) -> Result<(), Fault> {
+    fn release(&mut self, index: usize) -> Result<(), Fault> {
         let before = self.rules;
         let due = Answer::due(rules::hook_release(&mut self.rules, &self.parts, index));
         let gave = c_face::release(&mut self.library, &self.parts, index);
         if due != gave || self.rules != self.library {
-            return Err(self.differs(Call::Release, before));
+            return Err(self.differs(Call::Release, before, self.both(due, gave)));
         }
         if gave.refusal > 0 {
-            done.refused += 1;
+            self.counts.refused += 1;
         } else {
-            done.releases += 1;
+            self.counts.releases += 1;
             self.ledger.given[index] += before.b[index];
         }
         Ok(())
@@ -174,47 +176,84 @@ impl Run {
 
     /// Mostly words; ticks for a member of the list, releases, and what must be refused.
     fn next(&self, r: &mut Random) -> Event {
+        let table = &self.history.table;
         let member = |r: &mut Random| {
-            let list = rules::list_of(&self.table, &self.rules);
+            let list = rules::list_of(table, &self.rules);
             list.members[r.below(list.length)] as usize
         };
         match r.below(16) {
             0..=2 => Event::For(member(r)),
             3 => Event::For(r.of(&[0, 1, 15, 16, IDLE, 256])),
             4 => Event::Release(member(r)),
-            5 => Event::Release(r.below(self.table.count + 1)),
-            6 => Event::Word(tables::edge_word(r, &self.table, &self.rules)),
+            5 => Event::Release(r.below(table.count + 1)),
+            6 => Event::Word(tables::edge_word(r, table, &self.rules)),
             _ => Event::Word(tables::word(r)),
         }
     }
 
-    fn step(&mut self, done: &mut Runs, event: Event) -> Result<(), Fault> {
-        self.events.push(event);
+    fn step(&mut self, event: Event) -> Result<(), Fault> {
+        self.history.events.push(event);
         match event {
-            Event::Word(word) => self.word(done, word),
-            Event::For(pick) => self.tick_for(done, pick),
-            Event::Release(index) => self.release(done, index),
+            Event::Word(word) => self.word(word),
+            Event::For(pick) => self.tick_for(pick),
+            Event::Release(index) => self.release(index),
         }
     }
 }
 
-fn one(r: &mut Random, done: &mut Runs) -> Result<(), Fault> {
-    let table = tables::admitted(r);
-    let mut run = Run::start(table)?;
-    done.runs += 1;
+fn one(r: &mut Random) -> Result<Counts, Fault> {
+    let mut run = Run::start(tables::admitted(r))?;
     for _ in 0..r.of(&[20, 60, 200, 1000]) {
         let event = run.next(r);
-        run.step(done, event)?;
+        run.step(event)?;
     }
-    Ok(())
+    Ok(run.counts)
+}
+
+impl Counts {
+    pub fn add(&mut self, other: &Counts) {
+        self.runs += other.runs;
+        self.ticks += other.ticks;
+        self.releases += other.releases;
+        self.refused += other.refused;
+        self.periods += other.periods;
+    }
 }
 
 /// Stops at the first fault.
 pub fn many(seed: u64, ticks: u64) -> Runs {
     let mut random = Random::new(seed);
     let mut done = Runs::default();
-    while done.ticks < ticks && done.fault.is_none() {
-        done.fault = one(&mut random, &mut done).err();
+    while done.counts.ticks < ticks && done.fault.is_none() {
+        match one(&mut random) {
+            Ok(counts) => done.counts.add(&counts),
+            Err(fault) => done.fault = Some(fault),
+        }
     }
     done
+}
+
+/// The same again. What a shorter history can't do is refused on both sides, and no fault.
+fn again(history: &History) -> Result<(), Fault> {
+    if rules::admission(&history.table) != Ok(None) {
+        return Ok(());
+    }
+    let mut run = Run::start(history.table)?;
+    history.events.iter().try_for_each(|&event| run.step(event))
+}
+
+/// The call alone where it differs alone, else the shortest history with a fault.
+pub fn told(fault: &Fault) -> String {
+    if let Some(text) = fault.found.as_ref().and_then(cases::told) {
+        return text;
+    }
+    let shortest = fault.history.smallest(|history| again(history).is_err());
+    match again(&shortest) {
+        Err(Fault { what, history, .. }) => format!("{what}\n{}", history.told()),
+        Ok(()) => format!(
+            "{}\nseen once: the same calls don't differ again\n{}",
+            fault.what,
+            fault.history.told()
+        ),
+    }
 }
