@@ -5,9 +5,10 @@ use crate::case::{self, Case};
 use crate::coverage::Coverage;
 use crate::random::Random;
 use crate::shrink::Shrink;
+use crate::{case_smaller, case_told};
 
 const SHRINK: Shrink<Case> = Shrink {
-    smaller: case::smaller,
+    smaller: case_smaller::smaller,
     cost: |_| 1,
     budget: 2_000_000,
 };
@@ -75,7 +76,7 @@ pub fn told(found: &Found) -> Option<String> {
     Some(format!(
         "differs: {}\n{}  01's rules give: {}\n  the library gave: {}\n",
         call.name(),
-        case::told(&case, call),
+        case_told::told(&case, call),
         difference.rules,
         difference.library,
     ))

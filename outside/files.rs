@@ -3,9 +3,9 @@
 use crate::meter::LONGEST_FILE;
 use crate::random::Random;
 use crate::rules::{self, Table, Tasks, IDLE, MOST_PARTITIONS, MOST_TASKS};
-use crate::shrink::{lower, shorter, Steps};
+use crate::states;
 use crate::tables;
-use std::fmt::Write;
+use crate::tasks;
 
 /// A file as its records. A damaged record may be any bytes.
 pub type Records = Vec<Vec<u8>>;
@@ -118,9 +118,9 @@ fn some_events(r: &mut Random, t: &Table) -> Records {
             continue;
         }
         let drawn = if r.one_in(4) {
-            tables::edge_word(r, t, &s)
+            states::edge_word(r, t, &s)
         } else {
-            tables::word(r)
+            states::word(r)
         };
         s = rules::ticked(t, s, rules::pick(&w, drawn));
         events.push(word(drawn));
@@ -180,7 +180,7 @@ fn draft(r: &mut Random, sort: Sort) -> Draft {
     };
     let mut k = match r.one_in(12) {
         true if t.count < MOST_PARTITIONS && sort != Sort::NotAdmitted => with_overflow(r, &mut t),
-        _ => tables::tasks(r, &t),
+        _ => tasks::in_range(r, &t),
     };
     let events = some_events(r, &t);
     if sort == Sort::PartitionField {
@@ -189,7 +189,7 @@ fn draft(r: &mut Random, sort: Sort) -> Draft {
     }
     if sort == Sort::TaskField {
         k.count = k.count.max(1);
-        tables::damage_task(r, &t, &mut k);
+        tasks::damage_task(r, &t, &mut k);
     }
     let mut draft = Draft::of(&t, &k, events);
     damage_draft(r, sort, &mut draft);
@@ -199,9 +199,9 @@ fn draft(r: &mut Random, sort: Sort) -> Draft {
 /// Sums that leave 32 bits, where the table stays admitted with them.
 fn with_overflow(r: &mut Random, t: &mut Table) -> Tasks {
     let mut changed = *t;
-    let k = tables::overflowing_tasks(r, &mut changed);
+    let k = tasks::overflowing(r, &mut changed);
     if rules::admission(&changed) != Ok(None) {
-        return tables::tasks(r, t);
+        return tasks::in_range(r, t);
     }
     *t = changed;
     k
@@ -229,13 +229,13 @@ fn cut(r: &mut Random, file: &mut Records, least: usize, most: usize) {
     file[place].truncate(kept);
 }
 
-fn set_number(record: &mut [u8], at: usize, number: u16) {
+pub fn set_number(record: &mut [u8], at: usize, number: u16) {
     if record.len() >= at + 2 {
         record[at..at + 2].copy_from_slice(&number.to_le_bytes());
     }
 }
 
-fn get_number(record: &[u8], at: usize) -> u16 {
+pub fn get_number(record: &[u8], at: usize) -> u16 {
     match record.get(at..at + 2) {
         Some(two) => u16::from_le_bytes([two[0], two[1]]),
         None => 0,
@@ -282,7 +282,7 @@ fn out_of_order(r: &mut Random, file: &mut Records) {
     file.insert(place, late);
 }
 
-fn size(file: &Records) -> usize {
+pub fn size(file: &Records) -> usize {
     file.iter().map(Vec::len).sum()
 }
 
@@ -388,65 +388,4 @@ pub fn random(r: &mut Random, sort: Sort) -> Records {
             file
         }
     }
-}
-
-// Smaller.
-
-/// The file with one number lower, or one record cut by a byte.
-fn lower_numbers(file: &Records) -> impl Iterator<Item = Records> + '_ {
-    let places = (0..file.len())
-        .flat_map(|place| (0..file[place].len()).step_by(2).map(move |at| (place, at)));
-    places.flat_map(move |(place, at)| {
-        let number = get_number(&file[place], at);
-        lower(number.into()).into_iter().map(move |value| {
-            let mut next = file.clone();
-            set_number(&mut next[place], at, value as u16);
-            next
-        })
-    })
-}
-
-pub fn smaller(file: &Records) -> Steps<'_, Records> {
-    Box::new(shorter(file).chain(lower_numbers(file)))
-}
-
-// In words.
-
-fn meaning(record: &[u8]) -> String {
-    let number = |at| get_number(record, at);
-    match (record.len(), number(0), number(2)) {
-        (10, 8, 1) => format!(
-            "partition T {} B {} phase {}",
-            number(4),
-            number(6),
-            number(8)
-        ),
-        (10, 8, 2) => format!("task of {} p {} e {}", number(4), number(6), number(8)),
-        (8, 6, 3) => {
-            let word = u32::from(number(6)) << 16 | u32::from(number(4));
-            format!("word {word}")
-        }
-        (6, 4, 4) => format!("release {}", number(4)),
-        _ => String::from("damaged"),
-    }
-}
-
-/// Lines that are enough to see any small file whole.
-const MOST_LINES: usize = 60;
-
-pub fn told(file: &Records) -> String {
-    let mut text = format!("  file of {} bytes\n", size(file));
-    let mut offset = 0;
-    for (line, record) in file.iter().enumerate() {
-        if line < MOST_LINES {
-            let shown = record.iter().take(12).map(|byte| format!("{byte:02x} "));
-            let shown: String = shown.collect();
-            let _ = writeln!(text, "  {offset:>6}: {shown:<36} {}", meaning(record));
-        }
-        offset += record.len();
-    }
-    if file.len() > MOST_LINES {
-        let _ = writeln!(text, "  and {} more records", file.len() - MOST_LINES);
-    }
-    text
 }

@@ -1,8 +1,9 @@
 //! What the kernel did over an admitted table from its fresh start. How it is made smaller, and printed.
 
-use crate::case::{self, Case};
+use crate::case::Case;
 use crate::rules::{State, Table};
 use crate::shrink::{lower, shorter, Shrink, Steps};
+use crate::{case_smaller, case_told};
 
 #[derive(Clone, Copy, Debug)]
 pub enum Event {
@@ -45,7 +46,7 @@ impl History {
         let skipped = self.events.len().saturating_sub(MOST_EVENTS);
         format!(
             "  from the fresh start of\n{}  after {skipped} events: {:?}\n",
-            case::partition_rows(&case, false),
+            case_told::partition_rows(&case, false),
             &self.events[skipped..]
         )
     }
@@ -69,7 +70,7 @@ fn without_partition(history: &History, h: usize) -> History {
     let case = Case::of(history.table, State::NONE);
     let events = history.events.iter();
     History {
-        table: case::without_partition(&case, h).table,
+        table: case_smaller::without_partition(&case, h).table,
         events: events.filter_map(|&event| moved(event, h)).collect(),
     }
 }
@@ -82,7 +83,7 @@ fn fewer(history: &History) -> Vec<History> {
 
 fn lower_table(history: &History) -> Vec<History> {
     let case = Case::of(history.table, State::NONE);
-    let lowered = case::lower_fields(&case).into_iter();
+    let lowered = case_smaller::lower_fields(&case).into_iter();
     let tables = lowered.filter(|case| case.state == State::NONE);
     let with = |case: Case| History {
         table: case.table,

@@ -4,8 +4,11 @@
 mod c_face;
 mod calls;
 mod case;
+mod case_smaller;
+mod case_told;
 mod cases;
 mod coverage;
+mod file_told;
 mod files;
 mod history;
 mod meter;
@@ -14,11 +17,14 @@ mod random;
 mod rules;
 mod runs;
 mod shrink;
+mod states;
 mod sums;
 mod tables;
+mod tasks;
 
 use coverage::Coverage;
-use printers::Programs;
+use printers::{Files, Programs};
+use runs::Counts;
 use std::process::ExitCode;
 use std::thread;
 use std::time::Instant;
@@ -73,12 +79,8 @@ fn shortest(mut told: Vec<String>) -> Result<(), String> {
 fn cases() -> Part {
     let each = CASES / THREADS;
     let all = on_threads(|number| cases::many(CASE_SEED + number as u64, each));
-    shortest(
-        all.iter()
-            .filter_map(|done| done.found.as_ref())
-            .filter_map(cases::told)
-            .collect(),
-    )?;
+    let found = all.iter().filter_map(|done| done.found.as_ref());
+    shortest(found.filter_map(cases::told).collect())?;
     let mut coverage = Coverage::none();
     let mut counts = [0; 18];
     for done in &all {
@@ -91,11 +93,12 @@ fn cases() -> Part {
     for (count, &times) in counts.iter().enumerate() {
         rare.extend(rarely(&format!("tables of {count}"), times, 5_000));
     }
+    let (tables, calls) = (counts.iter().sum(), coverage.calls());
+    rare.extend(rarely("tables with states", tables, 1_000_000));
     enough(rare)?;
-    let tables: u64 = counts.iter().sum();
     Ok(format!(
-        "cases: {tables} tables with states, {} calls, all equal\n  tables of 0, 1 to 16, and more: {counts:?}\n{lines}",
-        coverage.calls()
+        "cases: {tables} tables with states, {calls} calls, all equal\n  \
+         tables of 0, of 1 to 16, of more: {counts:?}\n{lines}"
     ))
 }
 
@@ -104,31 +107,44 @@ fn runs() -> Part {
     let all = on_threads(|number| runs::many(RUN_SEED + number as u64, each));
     let faults = all.iter().filter_map(|done| done.fault.as_ref());
     shortest(faults.map(runs::told).collect())?;
-    let mut sum = runs::Counts::default();
+    let mut sum = Counts::default();
     for done in &all {
         sum.add(&done.counts);
     }
-    let rare = [
-        rarely("ticks of runs", sum.ticks, 100_000),
-        rarely("releases", sum.releases, 10_000),
-        rarely("refused ticks and releases", sum.refused, 10_000),
-        rarely("whole periods", sum.periods, 50_000),
-    ];
-    enough(rare.into_iter().flatten().collect())?;
-    let runs::Counts {
+    let Counts {
         runs,
         ticks,
         releases,
         refused,
         periods,
     } = sum;
+    let rare = [
+        rarely("ticks of runs", ticks, 100_000),
+        rarely("releases", releases, 10_000),
+        rarely("refused ticks and releases", refused, 10_000),
+        rarely("whole periods", periods, 50_000),
+    ];
+    enough(rare.into_iter().flatten().collect())?;
     Ok(format!(
-        "runs: {runs} fresh starts, {ticks} ticks, {releases} releases, {refused} refused, all equal\n  in each of {periods} whole periods the budget was used to the tick\n"
+        "runs: {runs} fresh starts, {ticks} ticks, {releases} releases, {refused} refused, all equal\n  \
+         in each of {periods} whole periods the budget was used to the tick\n"
     ))
 }
 
+/// How outputs ended: whole, or with which refusal.
+fn endings(counts: &[u64; 10]) -> String {
+    let refused = (1..10).filter(|&refusal| counts[refusal] > 0);
+    let refused: Vec<String> = refused
+        .map(|refusal| format!("({refusal}) {}", counts[refusal]))
+        .collect();
+    format!("whole {}, refused {}", counts[0], refused.join(", "))
+}
+
+/// The least number of files for each way that the schedule printer's output ends.
+const LEAST_ENDINGS: [u64; 10] = [1_000, 500, 200, 0, 0, 0, 300, 0, 1_000, 400];
+
 fn files(programs: &Programs) -> Part {
-    let mut all = printers::Files::default();
+    let mut all = Files::default();
     for done in on_threads(|number| printers::many(FILE_SEED, programs, number, THREADS, FILES)) {
         all.add(done);
     }
@@ -138,32 +154,22 @@ fn files(programs: &Programs) -> Part {
     if let Some(found) = &all.found {
         return Err(printers::told(found, programs));
     }
-    let least = [1_000, 500, 200, 0, 0, 0, 300, 0, 1_000, 400];
-    let rare = (0..10)
-        .filter_map(|end| {
-            rarely(
-                &format!("files ending in {end}"),
-                all.schedule[end],
-                least[end],
-            )
-        })
-        .chain(rarely("files", all.files, FILES as u64))
-        .chain(rarely("tasks in time", all.in_time, 2_000))
-        .chain(rarely("tasks late", all.late, 2_000));
-    enough(rare.collect())?;
-    let endings = |counts: [u64; 10]| {
-        let met = (1..10).filter(|&refusal| counts[refusal] > 0);
-        let refused: Vec<String> = met
-            .map(|refusal| format!("{refusal} {}", counts[refusal]))
-            .collect();
-        format!("whole {}, refused {}", counts[0], refused.join(", "))
-    };
+    let mut rare = Vec::new();
+    for (end, least) in LEAST_ENDINGS.into_iter().enumerate() {
+        let what = format!("files ending in {end}");
+        rare.extend(rarely(&what, all.schedule[end], least));
+    }
+    rare.extend(rarely("files", all.files, 5_000));
+    rare.extend(rarely("tasks in time", all.in_time, 2_000));
+    rare.extend(rarely("tasks late", all.late, 2_000));
+    enough(rare)?;
     Ok(format!(
-        "files: {} of {} bytes, all equal\n  schedule: {}\n  response: {}; tasks in time {}, late {}\n",
+        "files: {} of {} bytes in all, all equal\n  schedule: {}\n  response: {}, \
+         tasks in time {}, late {}\n",
         all.files,
         all.bytes,
-        endings(all.schedule),
-        endings(all.response),
+        endings(&all.schedule),
+        endings(&all.response),
         all.in_time,
         all.late
     ))

@@ -1,4 +1,4 @@
-//! Document 01, "Meter file and printers": what each printer writes for a file, written from 01's words alone.
+//! Document 01, "Meter file and printers": what each printer writes for a file, from 01's words alone.
 
 use crate::rules::{self, Refusal, State, Table, Tasks, IDLE, MOST_PARTITIONS, MOST_TASKS};
 

@@ -1,15 +1,18 @@
 //! The two printers as programs: each file goes to both on standard input, and what they write is compared.
 
+use crate::file_told;
 use crate::files::{self, Records, Sort};
 use crate::meter;
 use crate::random::Random;
 use crate::shrink::Shrink;
 use std::io::{Read, Write};
 use std::process::{Command, Stdio};
+use std::thread;
+use std::time::Duration;
 
 /// A trial starts a program, and that takes as long as some twenty records.
 const SHRINK: Shrink<Records> = Shrink {
-    smaller: files::smaller,
+    smaller: file_told::smaller,
     cost: |file| 20 + file.len(),
     budget: 500_000,
 };
@@ -30,7 +33,18 @@ pub struct Programs {
 pub struct Found {
     pub printer: Printer,
     pub file: Records,
+    pub way: Way,
 }
+
+/// How a file is written to a printer: at once, or in two pieces, so that a read comes short.
+#[derive(Clone, Copy, PartialEq, Eq)]
+pub enum Way {
+    AtOnce,
+    InPieces,
+}
+
+/// One file in so many is written in pieces.
+const PIECES_IN: usize = 29;
 
 #[derive(Default)]
 pub struct Files {
@@ -55,31 +69,37 @@ impl Programs {
     }
 
     /// What the program writes. One that can't be started, or is killed, says so in place of it.
-    fn output(&self, printer: Printer, file: &[u8]) -> Vec<u8> {
+    fn output(&self, printer: Printer, file: &[u8], way: Way) -> Vec<u8> {
         let path = self.path(printer);
-        self.try_output(path, file)
+        try_output(path, file, way)
             .unwrap_or_else(|error| format!("{path}: {error}\n").into_bytes())
     }
+}
 
-    fn try_output(&self, path: &str, file: &[u8]) -> std::io::Result<Vec<u8>> {
-        let mut child = Command::new(path)
-            .stdin(Stdio::piped())
-            .stdout(Stdio::piped())
-            .spawn()?;
-        if let Some(mut input) = child.stdin.take() {
-            // A printer may stop reading a file that is over the limit: that is no error.
-            let _ = input.write_all(file);
+fn try_output(path: &str, file: &[u8], way: Way) -> std::io::Result<Vec<u8>> {
+    let mut child = Command::new(path)
+        .stdin(Stdio::piped())
+        .stdout(Stdio::piped())
+        .stderr(Stdio::null())
+        .spawn()?;
+    if let Some(mut input) = child.stdin.take() {
+        let half = file.len() / 2;
+        // A printer may stop reading a file that is over the limit: that is no error.
+        let _ = input.write_all(&file[..half]);
+        if way == Way::InPieces {
+            thread::sleep(Duration::from_millis(3));
         }
-        let mut written = Vec::new();
-        if let Some(mut output) = child.stdout.take() {
-            output.read_to_end(&mut written)?;
-        }
-        let status = child.wait()?;
-        if status.code().is_none() {
-            written.extend(format!("ended by {status}\n").bytes());
-        }
-        Ok(written)
+        let _ = input.write_all(&file[half..]);
     }
+    let mut written = Vec::new();
+    if let Some(mut output) = child.stdout.take() {
+        output.read_to_end(&mut written)?;
+    }
+    let status = child.wait()?;
+    if status.code().is_none() {
+        written.extend(format!("ended by {status}\n").bytes());
+    }
+    Ok(written)
 }
 
 fn due(printer: Printer, file: &[u8]) -> String {
@@ -98,36 +118,46 @@ fn ending(output: &str) -> usize {
     number.and_then(|number| number.parse().ok()).unwrap_or(0)
 }
 
-fn try_printer(done: &mut Files, programs: &Programs, printer: Printer, file: &Records) -> usize {
+/// Compares one output. Answers what 01's rules give.
+fn try_printer(
+    done: &mut Files,
+    programs: &Programs,
+    printer: Printer,
+    file: &Records,
+    way: Way,
+) -> String {
     let bytes = files::bytes(file);
     let due = due(printer, &bytes);
-    if programs.output(printer, &bytes) != due.as_bytes() {
+    if programs.output(printer, &bytes, way) != due.as_bytes() {
         let file = file.clone();
-        done.found.get_or_insert(Found { printer, file });
+        done.found.get_or_insert(Found { printer, file, way });
     }
-    let ending = ending(&due);
-    match printer {
-        Printer::Schedule => done.schedule[ending] += 1,
-        Printer::Response => {
-            done.response[ending] += 1;
-            let late = due.lines().filter(|line| line.ends_with("late")).count() as u64;
-            let lines = due.lines().count() as u64;
-            done.late += late;
-            done.in_time += lines.saturating_sub(2 + late);
-        }
-    }
-    ending
+    due
 }
 
-fn try_file(done: &mut Files, programs: &Programs, sort: Sort, file: &Records) {
+fn count_responses(done: &mut Files, output: &str) {
+    let late = output.lines().filter(|line| line.ends_with("late")).count() as u64;
+    done.late += late;
+    // The first line and the last are no task's.
+    done.in_time += (output.lines().count() as u64).saturating_sub(2 + late);
+}
+
+fn try_file(done: &mut Files, programs: &Programs, sort: Sort, file: &Records, way: Way) {
     done.files += 1;
     done.bytes += files::bytes(file).len() as u64;
-    let ending = try_printer(done, programs, Printer::Schedule, file);
-    try_printer(done, programs, Printer::Response, file);
+    let schedule = try_printer(done, programs, Printer::Schedule, file, way);
+    let response = try_printer(done, programs, Printer::Response, file, way);
+    let end = ending(&schedule);
+    done.schedule[end] += 1;
+    done.response[ending(&response)] += 1;
+    count_responses(done, &response);
     let label = files::SORTS.iter().find(|(each, _, _)| *each == sort);
     if let Some(&(_, _, Some(refusal))) = label {
-        if ending != refusal as usize {
-            let text = format!("{sort:?} should end in {refusal}\n{}", files::told(file));
+        if end != refusal as usize {
+            let text = format!(
+                "{sort:?} should end in {refusal}\n{}",
+                file_told::told(file)
+            );
             done.mislabelled.get_or_insert(text);
         }
     }
@@ -140,7 +170,11 @@ pub fn many(seed: u64, programs: &Programs, from: usize, step: usize, count: usi
         let sort = files::sort_at(place);
         let mut random = Random::new(seed + place as u64);
         let file = files::random(&mut random, sort);
-        try_file(&mut done, programs, sort, &file);
+        let way = match place % PIECES_IN {
+            0 => Way::InPieces,
+            _ => Way::AtOnce,
+        };
+        try_file(&mut done, programs, sort, &file, way);
         if done.found.is_some() || done.mislabelled.is_some() {
             break;
         }
@@ -182,17 +216,21 @@ fn around(output: &str, other: &str) -> String {
 
 /// The smallest file found, in words.
 pub fn told(found: &Found, programs: &Programs) -> String {
-    let printer = found.printer;
+    let (printer, way) = (found.printer, found.way);
     let differs = |file: &Records| {
         let bytes = files::bytes(file);
-        programs.output(printer, &bytes) != due(printer, &bytes).as_bytes()
+        programs.output(printer, &bytes, way) != due(printer, &bytes).as_bytes()
     };
     let file = SHRINK.smallest(&found.file, differs);
     let bytes = files::bytes(&file);
     let due = due(printer, &bytes);
-    let wrote = String::from_utf8_lossy(&programs.output(printer, &bytes)).into_owned();
-    let mut text = format!("differs: the printer {}\n", programs.path(printer));
-    text += &files::told(&file);
+    let wrote = String::from_utf8_lossy(&programs.output(printer, &bytes, way)).into_owned();
+    let pieces = match way {
+        Way::AtOnce => "",
+        Way::InPieces => ", its input written in two pieces",
+    };
+    let mut text = format!("differs: the printer {}{pieces}\n", programs.path(printer));
+    text += &file_told::told(&file);
     text += &format!("  01's rules give:\n{}", around(&due, &wrote));
     text += &format!("  the printer wrote:\n{}", around(&wrote, &due));
     if due.lines().eq(wrote.lines()) {

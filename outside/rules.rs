@@ -388,7 +388,8 @@ pub fn decide(t: &Table, s: &State, words: &[u32]) -> Result<usize, Refusal> {
 
 // Tick, release and run.
 
-/// "A picked partition loses one of b. Then every o falls by 1; where it reaches 0, b becomes B and o becomes T."
+/// "A picked partition loses one of b. Then every o falls by 1; where it reaches 0, b becomes B
+/// and o becomes T."
 pub fn ticked(t: &Table, mut s: State, pick: usize) -> State {
     if pick != IDLE {
         s.b[pick] -= 1;

@@ -8,6 +8,7 @@ use crate::cases::{self, Found};
 use crate::history::{Event, History};
 use crate::random::Random;
 use crate::rules::{self, Part, State, Table, IDLE};
+use crate::states;
 use crate::tables;
 
 /// What each partition ran and gave up since its last replenishment.
@@ -186,8 +187,8 @@ impl Run {
             3 => Event::For(r.of(&[0, 1, 15, 16, IDLE, 256])),
             4 => Event::Release(member(r)),
             5 => Event::Release(r.below(table.count + 1)),
-            6 => Event::Word(tables::edge_word(r, table, &self.rules)),
-            _ => Event::Word(tables::word(r)),
+            6 => Event::Word(states::edge_word(r, table, &self.rules)),
+            _ => Event::Word(states::word(r)),
         }
     }
 

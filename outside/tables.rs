@@ -1,7 +1,7 @@
-//! Random tables, states, words and tasks: in range first, then damaged by small steps.
+//! Random tables: in range first, then damaged by small steps.
 
 use crate::random::Random;
-use crate::rules::{self, State, Table, Tasks, IDLE, LONGEST_PERIOD, MOST_PARTITIONS};
+use crate::rules::{self, Table, LONGEST_PERIOD, MOST_PARTITIONS};
 
 // Tables in range.
 
@@ -194,21 +194,13 @@ pub fn damage_partition(r: &mut Random, t: &mut Table, h: usize) {
     }
 }
 
-/// A count that may not be. The large ones are small again when cut to fewer bits.
+/// A count that may not be. Many of these are small again when cut to fewer bits.
 fn damage_count(r: &mut Random, t: &mut Table) {
-    t.count = r.of(&[
-        0,
-        0,
-        17,
-        17,
-        18,
-        33,
-        256,
-        258,
-        65537,
-        (1 << 32) + 2,
-        usize::MAX,
-    ]);
+    t.count = r.of(&[0, 0, 17, 17, 18, 33, 256, 258, (1 << 32) + 2, usize::MAX]);
+    // Rare, as the hook is lent that many records.
+    if r.one_in(200) {
+        t.count = 65538;
+    }
 }
 
 pub fn damage_table(r: &mut Random, t: &mut Table) {
@@ -218,205 +210,5 @@ pub fn damage_table(r: &mut Random, t: &mut Table) {
     }
     if r.one_in(3) {
         damage_count(r, t);
-    }
-}
-
-// States.
-
-/// Ticks for random members of the list and releases, from a fresh start.
-fn reached(r: &mut Random, t: &Table) -> State {
-    let mut s = rules::fresh_pairs(t);
-    for _ in 0..r.below(24) {
-        let list = rules::list_of(t, &s);
-        let member = list.members[r.below(list.length)] as usize;
-        if member != IDLE && r.one_in(6) {
-            s.b[member] = 0;
-        } else {
-            s = rules::ticked(t, s, member);
-        }
-    }
-    s
-}
-
-fn random_pair(r: &mut Random, budget: u16, period: u16, way: usize) -> (u16, u16) {
-    match way {
-        0 => (r.field(0, budget), r.field(1, period)),
-        1 => (
-            r.of(&[0, 1, budget]).min(budget),
-            r.of(&[1, 2, period]).min(period),
-        ),
-        2 => {
-            let o = r.field(1, period);
-            (budget.min(o).saturating_sub(r.field(0, 1)), o)
-        }
-        3 => (
-            if r.one_in(4) { r.field(1, budget) } else { 0 },
-            r.field(1, period),
-        ),
-        _ => {
-            let o = r.field(1, period);
-            let fair = u32::from(budget) * u32::from(o) / u32::from(period);
-            (fair as u16, o)
-        }
-    }
-}
-
-/// Each replenishment comes when all above, and what comes to them meanwhile, has just about run.
-fn stairs(r: &mut Random, t: &Table) -> State {
-    let (mut s, mut running) = (State::NONE, 0);
-    for h in 0..t.count {
-        let budget = t.budget[h];
-        s.b[h] = r.of(&[0, 1, budget, budget.div_ceil(4)]).min(budget);
-        running += s.b[h] as usize;
-        let o = running + r.below(3);
-        s.o[h] = o.clamp(1, t.period[h].into()) as u16;
-        running += budget as usize;
-    }
-    s
-}
-
-/// A state in range for a table in range, standing or not.
-pub fn state(r: &mut Random, t: &Table) -> State {
-    let way = r.below(10);
-    match way {
-        5 => return rules::fresh_pairs(t),
-        6..=8 => return reached(r, t),
-        9 => return stairs(r, t),
-        _ => (),
-    }
-    let mut s = State::NONE;
-    for h in 0..t.count {
-        (s.b[h], s.o[h]) = random_pair(r, t.budget[h], t.period[h], way);
-    }
-    s
-}
-
-fn damage_pair(r: &mut Random, t: &Table, s: &mut State) {
-    let h = r.below(MOST_PARTITIONS);
-    if h >= t.count {
-        match r.below(3) {
-            0 => s.b[h] = 1,
-            1 => s.o[h] = 1,
-            _ => (s.b[h], s.o[h]) = (r.next() as u16, r.next() as u16),
-        }
-        return;
-    }
-    match r.below(5) {
-        0 => s.b[h] = t.budget[h] + 1,
-        1 => s.o[h] = 0,
-        2 => s.o[h] = t.period[h] + 1,
-        3 => s.b[h] = r.field(t.budget[h] + 1, u16::MAX),
-        _ => s.o[h] = r.field(t.period[h] + 1, u16::MAX),
-    }
-}
-
-pub fn damage_state(r: &mut Random, t: &Table, s: &mut State) {
-    for _ in 0..r.of(&[1, 1, 2, 3]) {
-        damage_pair(r, t, s);
-    }
-}
-
-// Words.
-
-/// A word whose remainder by S is the last for one candidate or the first for the next.
-pub fn edge_word(r: &mut Random, t: &Table, s: &State) -> u32 {
-    let w = rules::weights_of(t, s);
-    let all: u64 = w.weights.iter().sum();
-    let place = r.below(w.list.length);
-    let edge: u64 = w.weights[..=place].iter().sum();
-    let remainder = (edge + r.below(2) as u64 + all - 1) % all;
-    let turns = (u64::from(u32::MAX) - remainder) / all;
-    let turn = r.next() % (turns + 1);
-    (turn * all + remainder) as u32
-}
-
-pub fn word(r: &mut Random) -> u32 {
-    match r.below(16) {
-        0 => 0,
-        1 => u32::MAX,
-        2 => r.below(65537) as u32,
-        _ => r.next() as u32,
-    }
-}
-
-// Tasks.
-
-fn add_task(r: &mut Random, t: &Table, k: &mut Tasks) {
-    let x = k.count;
-    let home = r.below(t.count);
-    let period = t.period[home] as usize;
-    let gap = match r.below(4) {
-        0 => r.between(1, 65535),
-        1 => r.between(1, 20),
-        _ => (period * r.between(1, 20) + r.below(3)).min(65535),
-    };
-    let most = if r.one_in(8) {
-        gap
-    } else {
-        (gap / 20).clamp(1, 200)
-    };
-    k.partition[x] = home as u16;
-    k.gap[x] = gap as u16;
-    k.cost[x] = r.between(1, most) as u16;
-    k.count += 1;
-}
-
-/// The gap of one task becomes its response, or one less: in time and late are one apart.
-fn tighten(r: &mut Random, t: &Table, k: &mut Tasks) {
-    let x = r.below(k.count);
-    k.gap[x] = 65535;
-    let ticks = rules::response(t, k, x);
-    if ticks > 0 {
-        let gap = ticks as u16 - r.field(0, 1);
-        k.gap[x] = gap.max(k.cost[x]);
-    }
-}
-
-/// Tasks in range over a table in range.
-pub fn tasks(r: &mut Random, t: &Table) -> Tasks {
-    let mut k = Tasks::NONE;
-    let most = r.of(&[0, 1, 2, 4, 8, 8, 20, 64]);
-    for _ in 0..r.between(most / 2, most) {
-        add_task(r, t, &mut k);
-    }
-    if k.count > 0 && r.one_in(2) {
-        tighten(r, t, &mut k);
-    }
-    k
-}
-
-/// Sums that leave 32 bits: a load of a multiple of 2^20, or just above, at 4,096 ticks for each of it.
-pub fn overflowing_tasks(r: &mut Random, t: &mut Table) -> Tasks {
-    let home = r.below(t.count);
-    (t.period[home], t.budget[home]) = (LONGEST_PERIOD, 1);
-    let above = r.of(&[16, 32, 48]);
-    let mut k = Tasks::NONE;
-    k.count = above + 1;
-    for x in 0..k.count {
-        (k.partition[x], k.gap[x], k.cost[x]) = (home as u16, 65535, 65535);
-    }
-    k.cost[above] = (above + r.below(12)) as u16;
-    k
-}
-
-/// One task's field out of range, or too many tasks.
-pub fn damage_tasks(r: &mut Random, t: &Table, k: &mut Tasks) {
-    if k.count > 0 {
-        damage_task(r, t, k);
-    }
-    if k.count == 0 || r.one_in(4) {
-        k.count = r.of(&[65, 65, 66, 256, 320, (1 << 32) + 1, usize::MAX]);
-    }
-}
-
-pub fn damage_task(r: &mut Random, t: &Table, k: &mut Tasks) {
-    let x = r.below(k.count);
-    match r.below(5) {
-        0 => k.partition[x] = t.count as u16,
-        1 => k.partition[x] = r.field(t.count as u16, u16::MAX),
-        2 => k.gap[x] = 0,
-        3 => k.cost[x] = 0,
-        _ if k.gap[x] < u16::MAX => k.cost[x] = k.gap[x] + 1,
-        _ => k.cost[x] = 0,
     }
 }
