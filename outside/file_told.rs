@@ -4,9 +4,10 @@ use crate::files::{get_number, set_number, size, Records};
 use crate::shrink::{lower, shorter, Steps};
 use std::fmt::Write;
 
-/// The file with one number lower, or one record cut by a byte.
+/// The file with one number lower. The last records first: a task of partition 0 lets the others go.
 fn lower_numbers(file: &Records) -> impl Iterator<Item = Records> + '_ {
     let places = (0..file.len())
+        .rev()
         .flat_map(|place| (0..file[place].len()).step_by(2).map(move |at| (place, at)));
     places.flat_map(move |(place, at)| {
         let number = get_number(&file[place], at);
