@@ -3,6 +3,7 @@
 use crate::c_face::{self, Answer, Changed, Length, Listed, Picked, Response, Tested, Weighed};
 use crate::case::Case;
 use crate::rules::{self, Part, State, IDLE, MOST_PARTITIONS};
+use crate::watch::{self, Asking};
 use std::fmt::Debug;
 use std::hint::black_box;
 
@@ -103,6 +104,7 @@ fn same<A: PartialEq + Debug>(rules: A, library: A, refusal: u32, sort: usize) -
 }
 
 pub fn compare(call: Call, case: &Case) -> Compared {
+    let _awaited = watch::ask(Asking::Call(call, case.clone()));
     match call {
         Call::Admission => admission(case),
         Call::PartitionResponse => partition_response(case),

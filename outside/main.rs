@@ -21,6 +21,7 @@ mod states;
 mod sums;
 mod tables;
 mod tasks;
+mod watch;
 
 use coverage::Coverage;
 use printers::{Files, Programs};
@@ -47,7 +48,12 @@ fn on_threads<A: Send>(work: impl Fn(usize) -> A + Sync) -> Vec<A> {
     thread::scope(|scope| {
         let work = &work;
         let started: Vec<_> = (0..THREADS)
-            .map(|number| scope.spawn(move || work(number)))
+            .map(|number| {
+                scope.spawn(move || {
+                    watch::use_slot(1 + number);
+                    work(number)
+                })
+            })
             .collect();
         started
             .into_iter()
@@ -186,6 +192,7 @@ fn main() -> ExitCode {
         schedule: schedule.clone(),
         response: response.clone(),
     };
+    watch::start();
     sums::hold();
     println!("sums done by hand: as 01 has them");
     let parts: [&dyn Fn() -> Part; 3] = [&cases, &runs, &|| files(&programs)];

@@ -5,6 +5,7 @@ use crate::files::{self, Records, Sort};
 use crate::meter;
 use crate::random::Random;
 use crate::shrink::Shrink;
+use crate::watch::{self, Asking};
 use std::io::{Read, Write};
 use std::process::{Command, Stdio};
 use std::thread;
@@ -69,9 +70,10 @@ impl Programs {
     }
 
     /// What the program writes. One that can't be started, or is killed, says so in place of it.
-    fn output(&self, printer: Printer, file: &[u8], way: Way) -> Vec<u8> {
+    fn output(&self, printer: Printer, file: &Records, way: Way) -> Vec<u8> {
+        let _awaited = watch::ask(Asking::File(printer, file.clone()));
         let path = self.path(printer);
-        try_output(path, file, way)
+        try_output(path, &files::bytes(file), way)
             .unwrap_or_else(|error| format!("{path}: {error}\n").into_bytes())
     }
 }
@@ -82,6 +84,7 @@ fn try_output(path: &str, file: &[u8], way: Way) -> std::io::Result<Vec<u8>> {
         .stdout(Stdio::piped())
         .stderr(Stdio::null())
         .spawn()?;
+    watch::child(child.id());
     if let Some(mut input) = child.stdin.take() {
         let half = file.len() / 2;
         // A printer may stop reading a file that is over the limit: that is no error.
@@ -96,6 +99,7 @@ fn try_output(path: &str, file: &[u8], way: Way) -> std::io::Result<Vec<u8>> {
         output.read_to_end(&mut written)?;
     }
     let status = child.wait()?;
+    watch::child(0);
     if status.code().is_none() {
         written.extend(format!("ended by {status}\n").bytes());
     }
@@ -128,7 +132,7 @@ fn try_printer(
 ) -> String {
     let bytes = files::bytes(file);
     let due = due(printer, &bytes);
-    if programs.output(printer, &bytes, way) != due.as_bytes() {
+    if programs.output(printer, file, way) != due.as_bytes() {
         let file = file.clone();
         done.found.get_or_insert(Found { printer, file, way });
     }
@@ -219,12 +223,12 @@ pub fn told(found: &Found, programs: &Programs) -> String {
     let (printer, way) = (found.printer, found.way);
     let differs = |file: &Records| {
         let bytes = files::bytes(file);
-        programs.output(printer, &bytes, way) != due(printer, &bytes).as_bytes()
+        programs.output(printer, file, way) != due(printer, &bytes).as_bytes()
     };
     let file = SHRINK.smallest(&found.file, differs);
     let bytes = files::bytes(&file);
     let due = due(printer, &bytes);
-    let wrote = String::from_utf8_lossy(&programs.output(printer, &bytes, way)).into_owned();
+    let wrote = String::from_utf8_lossy(&programs.output(printer, &file, way)).into_owned();
     let pieces = match way {
         Way::AtOnce => "",
         Way::InPieces => ", its input written in two pieces",

@@ -10,6 +10,7 @@ use crate::random::Random;
 use crate::rules::{self, Part, State, Table, IDLE};
 use crate::states;
 use crate::tables;
+use crate::watch::{self, Asking};
 
 /// What each partition ran and gave up since its last replenishment.
 struct Ledger {
@@ -92,26 +93,40 @@ impl Run {
         let gave = c_face::fresh(&State::NONE, &table);
         let due = Changed::due(rules::fresh(&table), &State::NONE);
         if gave != due {
-            return Err(run.differs(Call::Fresh, State::NONE, format!("{due:?} but {gave:?}")));
+            return Err(run.differs(State::NONE, format!("{due:?} but {gave:?}")));
         }
         run.library = gave.state;
         run.counts.runs = 1;
         Ok(run)
     }
 
-    fn differs(&self, call: Call, before: State, both: String) -> Fault {
-        let history = self.history.clone();
-        let mut case = Case::of(history.table, before);
-        match history.events.last() {
-            Some(&Event::Word(word)) => case.words = vec![word],
-            Some(&Event::For(pick)) => case.pick = pick,
-            Some(&Event::Release(index)) => case.index = index,
-            None => (),
-        }
+    /// The last event as a call by itself.
+    fn last_call(&self, before: State) -> Found {
+        let mut case = Case::of(self.history.table, before);
+        let call = match self.history.events.last() {
+            Some(&Event::Word(word)) => {
+                case.words = vec![word];
+                Call::Tick
+            }
+            Some(&Event::For(pick)) => {
+                case.pick = pick;
+                Call::TickFor
+            }
+            Some(&Event::Release(index)) => {
+                case.index = index;
+                Call::Release
+            }
+            None => Call::Fresh,
+        };
+        Found { call, case }
+    }
+
+    fn differs(&self, before: State, both: String) -> Fault {
+        let found = self.last_call(before);
         Fault {
-            what: format!("differs: {}: {both}", call.name()),
-            found: Some(Found { call, case }),
-            history,
+            what: format!("differs: {}: {both}", found.call.name()),
+            found: Some(found),
+            history: self.history.clone(),
         }
     }
 
@@ -140,7 +155,7 @@ impl Run {
         let due = Picked::due(rules::hook_tick(&mut self.rules, &self.parts, word));
         let gave = c_face::tick(&mut self.library, &self.parts, word);
         if due != gave || self.rules != self.library {
-            return Err(self.differs(Call::Tick, before, self.both(due, gave)));
+            return Err(self.differs(before, self.both(due, gave)));
         }
         self.settle(&before, gave.pick as usize)
     }
@@ -150,7 +165,7 @@ impl Run {
         let due = Answer::due(rules::hook_tick_for(&mut self.rules, &self.parts, pick));
         let gave = c_face::tick_for(&mut self.library, &self.parts, pick);
         if due != gave || self.rules != self.library {
-            return Err(self.differs(Call::TickFor, before, self.both(due, gave)));
+            return Err(self.differs(before, self.both(due, gave)));
         }
         if gave.refusal > 0 {
             self.counts.refused += 1;
@@ -164,7 +179,7 @@ impl Run {
         let due = Answer::due(rules::hook_release(&mut self.rules, &self.parts, index));
         let gave = c_face::release(&mut self.library, &self.parts, index);
         if due != gave || self.rules != self.library {
-            return Err(self.differs(Call::Release, before, self.both(due, gave)));
+            return Err(self.differs(before, self.both(due, gave)));
         }
         if gave.refusal > 0 {
             self.counts.refused += 1;
@@ -194,6 +209,8 @@ impl Run {
 
     fn step(&mut self, event: Event) -> Result<(), Fault> {
         self.history.events.push(event);
+        let Found { call, case } = self.last_call(self.rules);
+        let _awaited = watch::ask(Asking::Call(call, case));
         match event {
             Event::Word(word) => self.word(word),
             Event::For(pick) => self.tick_for(pick),
