@@ -25,10 +25,10 @@ pub struct Part {
 #[repr(C)]
 #[derive(Clone, Copy, Debug, PartialEq, Eq)]
 pub struct Table {
-    pub count: usize,
     pub period: [u16; 16],
     pub budget: [u16; 16],
     pub phase: [u16; 16],
+    pub count: usize,
 }
 
 /// The tasks by value. Entries beyond the count are no part of them.
