@@ -42,7 +42,7 @@ use Rattle.responses.specs.Answers.{responseAs}
 use Rattle.responses.specs.Promises.{TaskResponseIs}
 use Rattle.responses.specs.declared.Response.{Response}
 use Rattle.responses.specs.declared.Response.the-variants as response
-use Rattle.bytes.specs.Promises.{TwoIs, FourIs}
+use Rattle.little_endian.specs.Promises.{TwoIs, FourIs}
 use Rattle.meter.specs.Forms.{readAs}
 use Rattle.meter.specs.Promises.{ReadRecordIs, PayloadIs, WhyRefusedIs}
 use Rattle.meter.specs.declared.Read.{Read}

@@ -4,7 +4,7 @@ ghost use Rattle.basis.specs.Words.{has};
 ghost use Rattle.file_rules.specs.MeterFile.{form as formOf, isRecord};
 ghost use Rattle.meter.specs.Forms.{shapeAs};
 ghost use Rattle.meter.specs.Promises.{ReadRecordIs, PayloadIs, WhyRefusedIs};
-use bytes::two;
+use little_endian::two;
 use rules::Refusal;
 
 // A record with its kind and the offset of the next one, or why there is none.

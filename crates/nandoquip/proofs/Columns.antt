@@ -83,7 +83,7 @@ module _ (f : Part → ℕ) (ps : List Part) (i : ℕ) (l : i < length ps) (h : 
 
 -- ---- the table, as the machine has it
 abbrev mach : ℕ → List Val → List Val → List Val → Val
-mach c us vs ws = vstruct (vcons (vint w64 c) (vcons (vstruct (ofList us)) (vcons (vstruct (ofList vs)) (vcons (vstruct (ofList ws)) vnil))))
+mach c us vs ws = vstruct (vcons (vstruct (ofList us)) (vcons (vstruct (ofList vs)) (vcons (vstruct (ofList ws)) (vcons (vint w64 c) vnil))))
 
 abbrev pub tableV : ℕ → List Part → Val
 tableV i ps = mach (length ps) (words (column i period ps)) (words (column i budget ps)) (words (column i phase ps))
@@ -91,8 +91,8 @@ tableV i ps = mach (length ps) (words (column i period ps)) (words (column i bud
 -- what lies in memory so is the table
 pub is-table : (i : ℕ) (ps : List Part) → i ≤ length ps → i ≤ 16 → WT (tableV i ps) → Is T.the-row (tableTo i ps) (tableV i ps ∷ [])
 is-table i ps l h t = (
-  (vint w64 (length ps) ∷ [], (vstruct (ofList (words (column i period ps))) ∷ [], (vstruct (ofList (words (column i budget ps))) ∷ [], (vstruct (ofList (words (column i phase ps))) ∷ [], tt)))),
-  (refl, ((refl, t .0 .fits), (is-column period ps i l h (t .1 .0), (is-column budget ps i l h (t .1 .1 .0), (is-column phase ps i l h (t .1 .1 .1 .0), tt))))),
+  (vstruct (ofList (words (column i period ps))) ∷ [], (vstruct (ofList (words (column i budget ps))) ∷ [], (vstruct (ofList (words (column i phase ps))) ∷ [], (vint w64 (length ps) ∷ [], tt)))),
+  (refl, (is-column period ps i l h (t .0), (is-column budget ps i l h (t .1 .0), (is-column phase ps i l h (t .1 .1 .0), ((refl, t .1 .1 .1 .0 .fits), tt))))),
 )
 
 pub table-none : (ps : List Part) → mach (length ps) (replicate 16 (vint w16 0)) (replicate 16 (vint w16 0)) (replicate 16 (vint w16 0)) ≡ tableV 0 ps

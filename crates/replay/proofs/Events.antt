@@ -28,7 +28,7 @@ use Rattle.scheduler.specs.Promises.{Change, changedAs, change, table, state, R
 use Rattle.scheduler.specs.declared.State.{State}
 use Rattle.scheduler.specs.declared.Changed.{Changed}
 use Rattle.meter.specs.Forms.{whyNot}
-use Rattle.bytes.specs.Promises.{TwoIs, FourIs}
+use Rattle.little_endian.specs.Promises.{TwoIs, FourIs}
 use Rattle.meter.specs.Promises.{ReadRecordIs, PayloadIs, WhyRefusedIs}
 use Rattle.meter.specs.declared.Read.{Read}
 use Rattle.meter.specs.declared.Read.the-variants as read

@@ -2,9 +2,9 @@
 ghost use Rattle.file_rules.specs.Events.{ticked, released};
 ghost use Rattle.rules.specs.Pick.{decision};
 ghost use Rattle.replay.specs.Promises.{DoneIs, ReplayIs};
-use bytes::four;
-use bytes::two;
 use draw::Decision;
+use little_endian::four;
+use little_endian::two;
 use meter::Read;
 use meter::payload;
 use meter::read_record;

@@ -4,7 +4,7 @@ ghost use Prim.Native.Nat.{_<_};
 ghost use Rattle.whole_file.specs.Inner.{withPartition, withTask, withRecord, empty, LoadIs, JudgeHeldIs};
 ghost use Rattle.whole_file.specs.Promises.{judgedAs, refusedFile, JudgeFileIs};
 ghost use Rattle.rules.specs.Refusals.{refusedAs};
-use bytes::two;
+use little_endian::two;
 use meter::Read;
 use meter::payload;
 use meter::read_record;

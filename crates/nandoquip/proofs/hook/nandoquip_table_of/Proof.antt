@@ -168,17 +168,17 @@ module _ {M : Type 1} (𝓤 : URA M) (H : Heap 𝓤) (A : Atoms 𝓤) (W : Given
           sets ! (addr ! (from ! (fld ! refl (stop !)))) (init ! 10 refl (tt, tt)) $
           sets ! (bin ! (loc ! 10 refl) (loc ! 6 refl) tt) (init ! 11 refl (tt, tt)) $
           assigns ! (of-opd ! (load ! (from ! (fld ! refl (stop !))) (look-in ! 9 (sub ! 0 refl (whole !))))) (from ! (hop ! (look ! 11 refl) (stop !)))
-          (store-in ! 1 (elem ! (words (column (i .0) period ps)) (i .0) (vint w16 0) (many _ ps (i .0) (within less) (below less)) (below less) (sub ! 1 refl (whole !))) (tt, record { fits = g .1 .1 .0 .1 })) $
+          (store-in ! 1 (elem ! (words (column (i .0) period ps)) (i .0) (vint w16 0) (many _ ps (i .0) (within less) (below less)) (below less) (sub ! 0 refl (whole !))) (tt, record { fits = g .1 .1 .0 .1 })) $
           sets ! (bin ! (loc ! 2 refl) (lit ! tt) (times2 less)) (store ! 6 refl (tt, times2 less)) $
           sets ! (addr ! (from ! (fld ! refl (stop !)))) (init ! 12 refl (tt, tt)) $
           sets ! (bin ! (loc ! 12 refl) (loc ! 6 refl) tt) (init ! 13 refl (tt, tt)) $
           assigns ! (of-opd ! (load ! (from ! (fld ! refl (stop !))) (look-in ! 9 (sub ! 1 refl (whole !))))) (from ! (hop ! (look ! 13 refl) (stop !)))
-          (store-in ! 1 (elem ! (words (column (i .0) budget ps)) (i .0) (vint w16 0) (many _ ps (i .0) (within less) (below less)) (below less) (sub ! 2 refl (whole !))) (tt, record { fits = g .1 .1 .1 .0 .1 })) $
+          (store-in ! 1 (elem ! (words (column (i .0) budget ps)) (i .0) (vint w16 0) (many _ ps (i .0) (within less) (below less)) (below less) (sub ! 1 refl (whole !))) (tt, record { fits = g .1 .1 .1 .0 .1 })) $
           sets ! (bin ! (loc ! 2 refl) (lit ! tt) (times2 less)) (store ! 6 refl (tt, times2 less)) $
           sets ! (addr ! (from ! (fld ! refl (stop !)))) (init ! 14 refl (tt, tt)) $
           sets ! (bin ! (loc ! 14 refl) (loc ! 6 refl) tt) (init ! 15 refl (tt, tt)) $
           assigns ! (of-opd ! (load ! (from ! (fld ! refl (stop !))) (look-in ! 9 (sub ! 2 refl (whole !))))) (from ! (hop ! (look ! 15 refl) (stop !)))
-          (store-in ! 1 (elem ! (words (column (i .0) phase ps)) (i .0) (vint w16 0) (many _ ps (i .0) (within less) (below less)) (below less) (sub ! 3 refl (whole !))) (tt, record { fits = g .1 .1 .1 .1 .0 .1 })) $
+          (store-in ! 1 (elem ! (words (column (i .0) phase ps)) (i .0) (vint w16 0) (many _ ps (i .0) (within less) (below less)) (below less) (sub ! 2 refl (whole !))) (tt, record { fits = g .1 .1 .1 .1 .0 .1 })) $
           assigns-last ! (bin ! (loc ! 2 refl) (lit ! tt) (plus1 less)) (from ! (stop !)) (store ! 2 refl (tt, plus1 less)) $
           rewrite ! 1 (λ (z : Val). ‵ (fat fullShare T′.mir l₃ 0 z)) (table-next ps (i .0) (within less) (below less)) refl $
           forget ! 6 refl $ forget ! 7 refl $ forget ! 8 refl $ forget ! 9 refl $ forget ! 10 refl $ forget ! 11 refl $ forget ! 12 refl $ forget ! 13 refl $ forget ! 14 refl $ forget ! 15 refl $
@@ -238,7 +238,7 @@ module _ {M : Type 1} (𝓤 : URA M) (H : Heap 𝓤) (A : Atoms 𝓤) (W : Given
     begins fits =
         sets ! (of-opd ! (load ! (from ! (fld ! refl (stop !))) (look-in ! 6 (sub ! 1 refl (whole !))))) (init ! 41 refl (tt, record { fits = fits })) $
         sets ! (rep ! 16 (lit ! tt)) (init ! 35 refl (tt, zeros-fit 16)) $ sets ! (rep ! 16 (lit ! tt)) (init ! 33 refl (tt, zeros-fit 16)) $ sets ! (rep ! 16 (lit ! tt)) (init ! 31 refl (tt, zeros-fit 16)) $
-        sets ! (agg ! (and-then ! (loc ! 41 refl) (and-then ! (loc ! 35 refl) (and-then ! (loc ! 33 refl) (and-then ! (loc ! 31 refl) (no-more !)))))) (init ! 3 refl (tt, (record { fits = fits }, (zeros-fit 16, (zeros-fit 16, (zeros-fit 16, tt)))))) $
+        sets ! (agg ! (and-then ! (loc ! 35 refl) (and-then ! (loc ! 33 refl) (and-then ! (loc ! 31 refl) (and-then ! (loc ! 41 refl) (no-more !)))))) (init ! 3 refl (tt, (zeros-fit 16, (zeros-fit 16, (zeros-fit 16, (record { fits = fits }, tt)))))) $
         rewrite ! 3 (λ (z : Val). ‵ (fat fullShare T′.mir l₃ 0 z)) (table-none ps) refl $ forget ! 35 refl $ forget ! 33 refl $ forget ! 31 refl $ chooses fits
 
   module _ (𝓣 : Tables 𝓤 H) (is-slice : Is (ShrSlice (named 0) κ P.the-row) (x .0) (sliceV ∷ [])) where

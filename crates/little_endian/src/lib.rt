@@ -2,7 +2,7 @@
 ghost use mathlib.Core.Path.{_≡_};
 ghost use Prim.Native.Nat.{_+_, _*_};
 ghost use Rattle.basis.specs.Words.{_!_};
-ghost use Rattle.bytes.specs.Promises.{TwoIs, FourIs};
+ghost use Rattle.little_endian.specs.Promises.{TwoIs, FourIs};
 
 // A byte of a part, and 0 past its end.
 fn byte(part: &[u8], at: usize) -> u8

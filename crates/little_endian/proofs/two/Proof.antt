@@ -1,7 +1,7 @@
 use Rattle.file_laws.proofs.MeterFile.{two-past}
 use borrow.Author.Needs.{needs}
-use Rattle.bytes.proofs.two.Statement.{statement}
-use Rattle.bytes.proofs.two.Tie as tie
+use Rattle.little_endian.proofs.two.Statement.{statement}
+use Rattle.little_endian.proofs.two.Tie as tie
 
 returns : tie.Need-returns
 returns c = two-past (c .before .before .args .part .now) _ (c .if1 .taken)

@@ -1,8 +1,8 @@
 use Rattle.file_laws.proofs.MeterFile.{nothing-past}
 use mathlib.Core.Path.{sym}
 use borrow.Author.Needs.{needs}
-use Rattle.bytes.proofs.byte.Statement.{statement}
-use Rattle.bytes.proofs.byte.Tie as tie
+use Rattle.little_endian.proofs.byte.Statement.{statement}
+use Rattle.little_endian.proofs.byte.Tie as tie
 
 returns : tie.Need-returns
 returns c = sym (nothing-past (c .before .args .part .now) _ (c .if1 .taken))

@@ -1,7 +1,7 @@
 use Rattle.file_laws.proofs.MeterFile.{four-past}
 use borrow.Author.Needs.{needs}
-use Rattle.bytes.proofs.four.Statement.{statement}
-use Rattle.bytes.proofs.four.Tie as tie
+use Rattle.little_endian.proofs.four.Statement.{statement}
+use Rattle.little_endian.proofs.four.Tie as tie
 
 returns : tie.Need-returns
 returns c = four-past (c .before .before .args .part .now) _ (c .if1 .taken)
