@@ -12,9 +12,9 @@ use Rattle.rules.specs.Refusals.{Refused, shortBuffer, refusal}
 use Rattle.rules.specs.declared.Table.{Table}
 use Rattle.ranges.specs.Outcome.{Outcome, refused, gives}
 use Rattle.ranges.specs.Verdicts.{verdictAs}
-use Rattle.draw.specs.Promises.{decisionAs}
+use Rattle.draw.specs.Promises.{decisionAs, ChooseIs}
 use Rattle.scheduler.specs.States.{pairs}
-use Rattle.scheduler.specs.Promises.{table, state}
+use Rattle.scheduler.specs.Promises.{table, state, PassTickIs}
 use Rattle.scheduler.specs.declared.State.{State}
 use Rattle.scheduler.specs.declared.Changed.{Changed}
 use Rattle.runs.specs.declared.Stepped.{Stepped}
@@ -69,6 +69,11 @@ module _ (t : Table) (s : State) where
 
   abbrev pub RunIs : List ℕ → List ℕ → Changed → List ℕ → Type 0
   RunIs words buffer r last = ranAs r last ≡ runSays words buffer
+
+-- what a decision and its tick on lent pairs give: the pick r, and the pairs `bs` and `os` after it
+pub record DrawnIs (n : ℕ) (T B b o : List ℕ) (word r : ℕ) (bs os : List ℕ) : Type 0 where
+  pub choice : ChooseIs n T B b o word r
+  pub passed : PassTickIs n T B b o r bs os
 
 -- what the loop of a run gives
 pub record Filled (n : ℕ) (T B : List ℕ) (s : State) (words buffer : List ℕ) (r : State) (last : List ℕ) : Type 0 where

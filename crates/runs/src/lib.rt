@@ -1,7 +1,7 @@
 // A step by a word, and a run over words: decisions and their ticks.
 ghost use Prim.Native.Nat.{_≤_};
 ghost use lib.ListN as Seq;
-ghost use Rattle.runs.specs.Promises.{StepIs, RunIs, Filled};
+ghost use Rattle.runs.specs.Promises.{DrawnIs, StepIs, RunIs, Filled};
 use draw::Decision;
 use draw::choose;
 use ranges::Verdict;
@@ -18,6 +18,22 @@ pub struct Stepped {
     pub decision: Decision,
 }
 
+// One decision by the word and its tick, on lent pairs.
+fn drawn<'t>(
+    n: usize,
+    period: &'t [u16; 16],
+    budget: &'t [u16; 16],
+    b: &mut [u16; 16],
+    o: &mut [u16; 16],
+    word: u32,
+) -> u8
+    ensures { λ r. ⌜ DrawnIs n (now (period .entry)) (now (budget .entry)) (now (b .entry)) (now (o .entry)) word r (now (b .exit)) (now (o .exit)) ⌝ }
+{
+    let pick = choose(n, period, budget, b, o, word);
+    pass_tick(n, period, budget, b, o, pick as usize);
+    pick
+}
+
 // One decision and its tick, from a word, in one search. Refusals 1 and 3.
 pub fn step(state: State, t: Table, word: u32) -> Stepped
     ensures { λ r. ⌜ StepIs t state word r ⌝ }
@@ -31,8 +47,7 @@ pub fn step(state: State, t: Table, word: u32) -> Stepped
     }
     let mut b = state.b;
     let mut o = state.o;
-    let pick = choose(t.count, &t.period, &t.budget, &b, &o, word);
-    pass_tick(t.count, &t.period, &t.budget, &mut b, &mut o, pick as usize);
+    let pick = drawn(t.count, &t.period, &t.budget, &mut b, &mut o, word);
     Stepped {
         state: State { b, o },
         decision: Decision::Pick(pick),
@@ -54,9 +69,7 @@ fn ran<'t>(
     let mut b = start.b;
     let mut o = start.o;
     for i in 0..words.len() {
-        let pick = choose(n, period, budget, &b, &o, words[i]);
-        picks[i] = pick;
-        pass_tick(n, period, budget, &mut b, &mut o, pick as usize);
+        picks[i] = drawn(n, period, budget, &mut b, &mut o, words[i]);
     }
     State { b, o }
 }

@@ -1,9 +1,8 @@
+use borrow.Author.Needs.{needs}
 use Prim.Native.Nat.{_-_, _≤_}
 use native.Mathlib.Omega.{arith}
-use borrow.Author.Needs.{needs}
 use lib.ListN.{length}
 use Rattle.runs.proofs.Looped.{RanTo, run-begins, run-goes-on, run-ends}
-use borrow.Author.Needs.{needs}
 use Rattle.runs.proofs.ran.Statement.{statement}
 use Rattle.runs.proofs.ran.Tie as tie
 
@@ -16,23 +15,17 @@ abbrev μ-loop : tie.MeasureT-loop
 loop-holds : tie.Need-loop-holds Inv-loop μ-loop
 loop-holds c = search (needs, run-begins)
 
-mul-choose : tie.Need-mul-choose Inv-loop μ-loop
-mul-choose c = search needs
+mul-drawn : tie.Need-mul-drawn Inv-loop μ-loop
+mul-drawn c = search needs
 
-shared-slice-read-choose : tie.Need-shared-slice-read-choose Inv-loop μ-loop
-shared-slice-read-choose c = search needs
+shared-slice-read-drawn : tie.Need-shared-slice-read-drawn Inv-loop μ-loop
+shared-slice-read-drawn c = search needs
 
-choose-requires : tie.Need-choose-requires Inv-loop μ-loop
-choose-requires c κs = search needs
+drawn-requires : tie.Need-drawn-requires Inv-loop μ-loop
+drawn-requires c κs = search needs
 
 slice-write-picks : tie.Need-slice-write-picks Inv-loop μ-loop
 slice-write-picks c = search needs
-
-cast-pass-tick : tie.Need-cast-pass-tick Inv-loop μ-loop
-cast-pass-tick c = search needs
-
-pass-tick-requires : tie.Need-pass-tick-requires Inv-loop μ-loop
-pass-tick-requires c κs = search needs
 
 add-i : tie.Need-add-i Inv-loop μ-loop
 add-i c = search needs
@@ -41,7 +34,7 @@ loop-less : tie.Need-loop-less Inv-loop μ-loop
 loop-less c = search needs
 
 loop-again : tie.Need-loop-again Inv-loop μ-loop
-loop-again c = (omega arith, run-goes-on _ _ _ _ _ _ _ _ _ _ (c .before .before .before .before .before .before .before .before .loop .inv .1) (c .before .before .before .before .before .before .before .before .before .before .before .before .before .pre .0) (c .before .before .before .before .before .before .before .before .before .before .before .before .before .pre .1) (c .before .before .before .before .before .before .before .loop-test .taken) _ (c .before .before .before .choose .ensures) _ _ (c .pass-tick .ensures))
+loop-again c = (omega arith, run-goes-on _ _ _ _ _ _ _ _ _ _ (c .before .before .before .before .before .loop .inv .1) (c .before .before .before .before .before .before .before .before .before .before .pre .0) (c .before .before .before .before .before .before .before .before .before .before .pre .1) (c .before .before .before .before .loop-test .taken) _ (c .drawn .ensures .choice) _ _ (c .drawn .ensures .passed))
 
 same-length : tie.Need-same-length Inv-loop μ-loop
 same-length c = search needs
@@ -56,12 +49,10 @@ ran-spec =
     Inv-loop
     μ-loop
     loop-holds
-    mul-choose
-    shared-slice-read-choose
-    choose-requires
+    mul-drawn
+    shared-slice-read-drawn
+    drawn-requires
     slice-write-picks
-    cast-pass-tick
-    pass-tick-requires
     add-i
     loop-less
     loop-again

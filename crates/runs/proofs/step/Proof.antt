@@ -15,27 +15,13 @@ returns c = step-refused _ _ _ (c .before .before .before .judge .ensures) _ _ (
 enum-told : tie.Need-enum-told
 enum-told c = search needs
 
-choose-requires : tie.Need-choose-requires
-choose-requires c κs = search needs
-
-cast-pass-tick : tie.Need-cast-pass-tick
-cast-pass-tick c = search needs
-
-pass-tick-requires : tie.Need-pass-tick-requires
-pass-tick-requires c κs = search needs
+drawn-requires : tie.Need-drawn-requires
+drawn-requires c κs = search needs
 
 returns-2 : tie.Need-returns-2
-returns-2 c = step-made _ _ _ (c .before .before .before .before .before .before .before .before .before .before .before .before .before .before .before .before .judge .ensures) (c .before .before .before .before .before .before .before .before .before .before .before .before .before .before .enum-told .given .1) _ _ _ (c .before .before .before .before .before .before .choose .ensures) (c .pass-tick .ensures)
+returns-2 c = step-made _ _ _ (c .before .before .before .before .before .before .before .before .before .before .judge .ensures) (c .before .before .before .before .before .before .before .before .enum-told .given .1) _ _ _ (c .drawn .ensures .choice) (c .drawn .ensures .passed)
 
 pub step-spec : {M : Type 1} → statement M
 step-spec =
     tie.close
-    (tie.spec
-    judge-requires
-    enum-known-judged
-    returns
-    enum-told
-    choose-requires
-    cast-pass-tick
-    pass-tick-requires
-    returns-2)
+    (tie.spec judge-requires enum-known-judged returns enum-told drawn-requires returns-2)
