@@ -13,7 +13,7 @@ use mir.Syntax.{w32}
 use mir.Val.{Fits}
 use Rattle.basis.specs.Words.{_!_, sumBelow, found}
 use Rattle.basis.specs.Reckoned.{Reckoned}
-use Rattle.rules.specs.BusyLength.{busyStart, refill, busyTest, passes}
+use Rattle.rules.specs.BusyLength.{busyStart, refill, passes}
 use Rattle.rules.specs.Candidates.{inversion}
 use Rattle.laws.proofs.Tests.{below-or-not}
 use Rattle.laws.proofs.Totals.{sum-same, sum-one-more}

@@ -12,7 +12,7 @@ use Rattle.basis.specs.Words.{_!_, sumBelow, settle}
 use Rattle.basis.specs.Reckoned.{Reckoned}
 use Rattle.rules.specs.BusyLength.{active, busyStart, refill, busySum, deadline, busyTest}
 use Rattle.laws.proofs.Totals.{sum-mono, sum-one-more}
-use Rattle.laws.proofs.Settle.{Rising, Start, up-to, Repeating, repeating-begins, repeated-past, repeated-still, repeating-on, repeating-nearer}
+use Rattle.laws.proofs.Settle.{Rising, Start, up-to, repeating-begins, repeated-past, repeated-still, repeating-on, repeating-nearer}
 use Rattle.laws.proofs.BusyLength.{refill-mono}
 use Rattle.busy.specs.Inner.{filling, Settles, Going}
 

@@ -3,7 +3,6 @@ use native.Mathlib.Omega.{arith}
 use borrow.Author.Needs.{needs}
 use Rattle.laws.proofs.Places.{PassTo, pass-begins, pass-next, fails-here, none-fails}
 use Rattle.ranges.proofs.Parts.{fine, bad-inside, good-inside}
-use borrow.Author.Needs.{needs}
 use Rattle.ranges.proofs.judge_inside.Statement.{statement}
 use Rattle.ranges.proofs.judge_inside.Tie as tie
 
