@@ -3,7 +3,8 @@
 
 use crate::rules::{List, Part, Refusal, State, Table, Tasks, Weights};
 
-/// "refusal (0: not refused) and second (0 where not refused)"
+/// A refusal's number and its second number; 0, 0: not refused. The header has the two as a struct of their own
+/// inside each answer, which lies in memory just as they do here.
 #[repr(C)]
 #[derive(Clone, Copy, Debug, PartialEq, Eq)]
 pub struct Answer {
@@ -168,7 +169,7 @@ pub fn task_response(t: &Table, k: &Tasks, task: usize) -> Response {
     unsafe { raw::nandoquip_task_response(*t, *k, task) }
 }
 
-// The answer that a rule's answer should look like: "on a refusal all further values are 0".
+// The answer that a rule's answer should look like: on a refusal all further values are 0.
 
 fn numbers<A>(answer: &Result<A, Refusal>) -> (u32, usize) {
     match answer {
