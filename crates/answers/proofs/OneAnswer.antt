@@ -10,12 +10,14 @@ use Rattle.rules.specs.declared.Table.{Table}
 use Rattle.rules.specs.declared.Tasks.{Tasks}
 use Rattle.laws.proofs.Tests.{none-is-some, some-is-none}
 use Rattle.laws.proofs.Refusals.{refused-injective}
-use Rattle.ranges.specs.Verdicts.{verdictAs}
-use Rattle.ranges.proofs.Outcomes.{refused-as, given-as, never-both}
-use Rattle.ranges.specs.Promises.{NumbersAre, JudgeTableIs, JudgeIndexIs, JudgeStateIs, JudgeIs}
-use Rattle.ranges.specs.declared.Numbered.{Numbered}
-use Rattle.ranges.specs.declared.Verdict.{Verdict}
-use Rattle.ranges.specs.declared.Verdict.the-variants as verdict
+use Rattle.verdicts.specs.Verdicts.{verdictAs}
+use Rattle.verdicts.proofs.Outcomes.{refused-as, given-as, never-both}
+use Rattle.verdicts.specs.Promises.{NumbersAre}
+use Rattle.ranges.specs.Promises.{JudgeTableIs, JudgeIndexIs}
+use Rattle.pairs.specs.Promises.{PairedIs, JudgeStateIs, JudgeIs}
+use Rattle.verdicts.specs.declared.Numbered.{Numbered}
+use Rattle.verdicts.specs.declared.Verdict.{Verdict}
+use Rattle.verdicts.specs.declared.Verdict.the-variants as verdict
 use Rattle.tasks.specs.Promises.{JudgeTasksIs, JudgeTaskIs}
 use Rattle.busy.specs.Spans.{spanAs}
 use Rattle.busy.specs.Promises.{Found, BusyLengthIs, PassesIs, SearchIs}
@@ -26,14 +28,16 @@ use Rattle.standing.specs.Promises.{AdmissionIs, ResponseIs, BusyTestIs, Standi
 use Rattle.standing.specs.declared.Test.{Test}
 use Rattle.standing.specs.declared.Test.the-variants as test
 use Rattle.standing.specs.declared.Length.{Length}
-use Rattle.standing.specs.declared.Length.the-variants as length
+use Rattle.standing.specs.declared.Length.the-variants as lasting
 use Rattle.candidates.specs.Promises.{Listing, listedAs, MemberIs, CandidatesIs}
 use Rattle.candidates.specs.declared.Listed.{Listed}
 use Rattle.draw.specs.Promises.{Weighing, weighedAs, decisionAs, ChooseIs, WeightsAre, DecideIs}
 use Rattle.draw.specs.declared.Weighed.{Weighed}
 use Rattle.draw.specs.declared.Decision.{Decision}
 use Rattle.draw.specs.declared.Decision.the-variants as decided
-use Rattle.scheduler.specs.Promises.{Change, changedAs, FreshIs, JudgedIs, PassTickIs, TickIs, ReleaseIs}
+use Rattle.scheduler.specs.States.{stateOf}
+use Rattle.scheduler.specs.Promises.{Change, changedAs, FreshIs, JudgedIs, TickIs, ReleaseIs}
+use Rattle.ticks.specs.Promises.{PassTickIs}
 use Rattle.runs.specs.Promises.{Step, steppedAs, Runs, ranAs, StepIs, RunIs}
 use Rattle.scheduler.specs.declared.State.{State}
 use Rattle.scheduler.specs.declared.Changed.{Changed}
@@ -100,15 +104,15 @@ test-injective (test.Refused p) (test.Fails k) e = never-both (sym e)
 test-injective (test.Refused p) (test.Refused q) e = ap test.Refused (refused-injective p q (refused-as e))
 
 pub length-injective : (r s : Length) → lengthAs r ≡ lengthAs s → r ≡ s
-length-injective (length.Within x) (length.Within y) e = ap length.Within (taken (given-as e))
-length-injective (length.Within x) length.Over e = some-is-none (given-as e)
-length-injective (length.Within x) (length.Refused q) e = never-both e
-length-injective length.Over (length.Within y) e = none-is-some (given-as e)
-length-injective length.Over length.Over e = refl
-length-injective length.Over (length.Refused q) e = never-both e
-length-injective (length.Refused p) (length.Within y) e = never-both (sym e)
-length-injective (length.Refused p) length.Over e = never-both (sym e)
-length-injective (length.Refused p) (length.Refused q) e = ap length.Refused (refused-injective p q (refused-as e))
+length-injective (lasting.Within x) (lasting.Within y) e = ap lasting.Within (taken (given-as e))
+length-injective (lasting.Within x) lasting.Over e = some-is-none (given-as e)
+length-injective (lasting.Within x) (lasting.Refused q) e = never-both e
+length-injective lasting.Over (lasting.Within y) e = none-is-some (given-as e)
+length-injective lasting.Over lasting.Over e = refl
+length-injective lasting.Over (lasting.Refused q) e = never-both e
+length-injective (lasting.Refused p) (lasting.Within y) e = never-both (sym e)
+length-injective (lasting.Refused p) lasting.Over e = never-both (sym e)
+length-injective (lasting.Refused p) (lasting.Refused q) e = ap lasting.Refused (refused-injective p q (refused-as e))
 
 pub decision-injective : (r s : Decision) → decisionAs r ≡ decisionAs s → r ≡ s
 decision-injective (decided.Pick x) (decided.Pick y) e = ap decided.Pick (given-as e)
@@ -167,11 +171,11 @@ weighed-injective r s e =
 
 changed-injective : (r s : Changed) → changedAs r ≡ changedAs s → r ≡ s
 changed-injective r s e =
-    λ i. record { state = record { b = e i .after .b; o = e i .after .o }; verdict = verdict-injective (r .verdict) (s .verdict) (ap (λ (x : Change). x .refused) e) i }
+    λ i. record { state = stateOf (e i .after); verdict = verdict-injective (r .verdict) (s .verdict) (ap (λ (x : Change). x .refused) e) i }
 
 stepped-injective : (r s : Stepped) → steppedAs r ≡ steppedAs s → r ≡ s
 stepped-injective r s e =
-    λ i. record { state = record { b = e i .after .b; o = e i .after .o }; decision = decision-injective (r .decision) (s .decision) (ap (λ (x : Step). x .says) e) i }
+    λ i. record { state = stateOf (e i .after); decision = decision-injective (r .decision) (s .decision) (ap (λ (x : Step). x .says) e) i }
 
 ran-injective : (r s : Changed) (x y : List ℕ) → ranAs r x ≡ ranAs s y → r ≡ s
 ran-injective r s x y e = changed-injective r s (λ i. record { after = e i .after; refused = e i .refused })
@@ -182,11 +186,11 @@ judged-injective r s e =
 
 replayed-injective : (r s : Replayed) → replayedAs r ≡ replayedAs s → r ≡ s
 replayed-injective r s e =
-    λ i. record { state = record { b = e i .after .b; o = e i .after .o }; event = event-injective (r .event) (s .event) (ap (λ (x : Replaying). x .says) e) i; next = e i .next }
+    λ i. record { state = stateOf (e i .after); event = event-injective (r .event) (s .event) (ap (λ (x : Replaying). x .says) e) i; next = e i .next }
 
 printed-injective : (r s : Printed) (x y : List ℕ) → printedAs r x ≡ printedAs s y → r ≡ s
 printed-injective r s x y e =
-    λ i. record { state = record { b = e i .after .b; o = e i .after .o }; made = made-injective (r .made) (s .made) (ap (λ (z : Printing). z .says) e) i }
+    λ i. record { state = stateOf (e i .after); made = made-injective (r .made) (s .made) (ap (λ (z : Printing). z .says) e) i }
 
 -- ---- the theorems, crate by crate
 pub numbers-one : (why : Refusal) (r s : Numbered) → NumbersAre why r → NumbersAre why s → r ≡ s
@@ -219,6 +223,9 @@ module _ (n : ℕ) (T B phase b o : List ℕ) where
 
   pub choose-one : (word r s : ℕ) → ChooseIs n T B b o word r → ChooseIs n T B b o word s → r ≡ s
   choose-one word r s p q = p ∙ sym q
+
+  pub paired-one : (r s : ℕ) → PairedIs n o r → PairedIs n o s → r ≡ s
+  paired-one r s p q = p ∙ sym q
 
   -- the lent pairs: each budget, and each o
   pub pass-tick-one : (pick : ℕ) (bs os cs qs : List ℕ) → PassTickIs n T B b o pick bs os → PassTickIs n T B b o pick cs qs → (bs ≡ cs) × (os ≡ qs)

@@ -4,7 +4,7 @@ use mathlib.Core.List.{List, [], _∷_}
 use mathlib.Core.Option.{some, none}
 use mathlib.Core.Path.{refl}
 use lib.Dec.{ltb}
-use Rattle.basis.specs.Words.{_!_, within, ceil, sumBelow, total, has, all, those, orElse, unless, first, found, filled, padded, settle}
+use Rattle.basis.specs.Words.{_!_, within, ceil, sumBelow, total, has, all, those, orElse, unless, first, found, filled, padded, onto, settle}
 use Rattle.basis.specs.Rows.{Row, _is_, Hold, number, answer, test}
 
 abbrev pub shown : List Row
@@ -34,6 +34,7 @@ shown =
     ∷ (test (found none) is 0 ∷ [])
     ∷ (filled 2 (λ i. 7 + i) (1 ∷ 2 ∷ 3 ∷ []) is 7 ∷ 8 ∷ 3 ∷ [])
     ∷ (padded 4 (7 ∷ 8 ∷ []) is 7 ∷ 8 ∷ 0 ∷ 0 ∷ [])
+    ∷ (onto (7 ∷ 8 ∷ []) (1 ∷ 2 ∷ 3 ∷ []) is 7 ∷ 8 ∷ 3 ∷ [])
     -- 1, 4, 4 stands still at 4, if that is within the bound
     ∷ (answer (settle 5 (λ x. 3 + ceil x 4) (ltb 4) 1) is 4 ∷ [])
     ∷ (answer (settle 5 (λ x. 3 + ceil x 4) (ltb 3) 1) is [])

@@ -5,7 +5,7 @@ use mathlib.Core.Bool.{Bool, true, false, cond, _&&_, _||_}
 use mathlib.Core.List.{List, [], _∷_, _++_}
 use mathlib.Core.Option.{Option, some, none}
 use lib.Dec.{leb, eqb}
-use lib.ListN.{length, getD, set, replicate}
+use lib.ListN.{length, getD, set, replicate, drop}
 
 infixl 90 _!_
 -- what stands at a place of a list, the places counted from 0; past the end of the list 0
@@ -72,6 +72,10 @@ filled (suc n) f xs = set (filled n f xs) n (f n)
 -- the list in the places of an array, and 0 in the unused places
 unfoldable pub padded : ℕ → List ℕ → List ℕ
 padded places xs = xs ++ replicate (places - length xs) 0
+
+-- the list at the start of a buffer, whose other entries stay
+abbrev pub onto : List ℕ → List ℕ → List ℕ
+onto xs buffer = xs ++ drop (length xs) buffer
 
 -- each entry of the list is larger than the one before it: in order, and none twice
 abbrev pub Increasing : List ℕ → Type 0

@@ -7,7 +7,8 @@ use mathlib.Core.Option.{none}
 use borrow.Author.Tests.{lt-ltb, le-ltb}
 use lib.Dec.{ltb}
 use Rattle.basis.specs.Words.{found}
-use Rattle.rules.specs.BusyLength.{busyTest, passes}
+use Rattle.rules.specs.BusyLength.{busyLength, passes}
+use Rattle.laws.proofs.BusyLength.{passes-found}
 use Rattle.busy.specs.Spans.{spanAs}
 use Rattle.busy.specs.Promises.{BusyLengthIs, PassesIs}
 use Rattle.busy.specs.declared.Span.{Span}
@@ -17,12 +18,11 @@ module _ (T B b o : List ℕ) (h w : ℕ) where
   pub not-there : 16 ≤ h → BusyLengthIs T B b o h w Over
   not-there l = sym (rw (le-ltb h 16 l))
 
-  pub there : (x : Span) → h < 16 → spanAs x ≡ busyTest T B b o h w → BusyLengthIs T B b o h w x
+  pub there : (x : Span) → h < 16 → spanAs x ≡ busyLength T B b o h w → BusyLengthIs T B b o h w x
   there x l e = rw (lt-ltb h 16 l) e
 
-  pass-is : (a : Bool) → found (cond a (busyTest T B b o h w) none) ≡ (a && passes T B b o h w)
-  unfolding passes
-  pass-is true = refl
+  pass-is : (a : Bool) → found (cond a (busyLength T B b o h w) none) ≡ (a && passes T B b o h w)
+  pass-is true = sym (passes-found T B b o h w)
   pass-is false = refl
 
   pub ends-within : (x : Span) (W : ℕ) → BusyLengthIs T B b o h w x → x ≡ Within W → PassesIs T B b o h w true

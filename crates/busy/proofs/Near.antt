@@ -17,6 +17,7 @@ use Rattle.rules.specs.BusyLength.{busyStart, refill, passes}
 use Rattle.rules.specs.Candidates.{inversion}
 use Rattle.laws.proofs.Tests.{below-or-not}
 use Rattle.laws.proofs.Totals.{sum-same, sum-one-more}
+use Rattle.laws.proofs.BusyLength.{passes-found}
 use Rattle.busy.specs.Inner.{Settles, Going, once, Reaches}
 use Rattle.busy.specs.Spans.{spanAs}
 use Rattle.busy.specs.declared.Span.{Span}
@@ -118,8 +119,7 @@ reaches-counted T o b h top reach e all-of-them j l = all-of-them j (few (ltb 0 
 
 module _ (T B b o : List ℕ) (h : ℕ) (d : ℕ) (due : Reckoned 131072 (cond (ltb 0 (b ! h)) (o ! h) (o ! h + T ! h)) d) (start : ℕ) (begins : start ≡ busyStart b h inversion) (top : ℕ) (counts : top ≡ cond (ltb 0 (b ! h)) h (h + 1)) (x : Span) (ends : spanAs x ≡ Settles T B o top start d) where
   passes-as : found (spanAs x) ≡ passes T B b o h inversion
-  unfolding passes
-  passes-as = ap found (busy-from T B b o h inversion d due start begins top (spanAs x) counts ends)
+  passes-as = ap found (busy-from T B b o h inversion d due start begins top (spanAs x) counts ends) ∙ sym (passes-found T B b o h inversion)
 
   pub passes-within : (W : ℕ) → x ≡ Within W → true ≡ passes T B b o h inversion
   passes-within W e = sym (ap (λ (s : Span). found (spanAs s)) e) ∙ passes-as

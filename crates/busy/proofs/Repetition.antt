@@ -10,7 +10,7 @@ use borrow.Author.Tests.{lt-ltb, le-ltb}
 use lib.Dec.{ltb}
 use Rattle.basis.specs.Words.{_!_, sumBelow, settle}
 use Rattle.basis.specs.Reckoned.{Reckoned}
-use Rattle.rules.specs.BusyLength.{active, busyStart, refill, busySum, deadline, busyTest}
+use Rattle.rules.specs.BusyLength.{active, busyStart, refill, busySum, deadline, busyLength}
 use Rattle.laws.proofs.Totals.{sum-mono, sum-one-more}
 use Rattle.laws.proofs.Settle.{Rising, Start, up-to, repeating-begins, repeated-past, repeated-still, repeating-on, repeating-nearer}
 use Rattle.laws.proofs.BusyLength.{refill-mono}
@@ -71,8 +71,8 @@ module _ (T B b o : List ℕ) (h w : ℕ) (d : ℕ) (due : Reckoned 131072 (cond
   unfolding deadline active
   due-is = due .is
 
-  pub busy-over : d < w → none ≡ busyTest T B b o h w
-  unfolding busyTest settle busyStart
+  pub busy-over : d < w → none ≡ busyLength T B b o h w
+  unfolding busyLength settle busyStart
   busy-over l = sym (rw (lt-ltb (deadline T b o h) (w + b ! h + sumBelow h (λ j. b ! j)) late))
     where
       late : deadline T b o h < w + b ! h + sumBelow h (λ j. b ! j)
@@ -87,8 +87,8 @@ module _ (T B b o : List ℕ) (h w : ℕ) (d : ℕ) (due : Reckoned 131072 (cond
       go false = let one-more = sum-one-more h (λ j. refill T B o j W) in omega arith
 
   pub busy-from : (start : ℕ) → start ≡ busyStart b h w → (top : ℕ) (x : Option ℕ) → top ≡ cond (ltb 0 (b ! h)) h (h + 1) → x ≡ Settles T B o top start d
-      → x ≡ busyTest T B b o h w
-  unfolding busyTest
+      → x ≡ busyLength T B b o h w
+  unfolding busyLength
   busy-from start begins top x e same =
       same ∙ rw (due-is, begins) (ap (λ (f : ℕ → ℕ). settle (suc (deadline T b o h)) f (ltb (deadline T b o h)) (busyStart b h w)) (fun-ext (filling-is top e)))
 
@@ -105,5 +105,5 @@ module _ (T B b o : List ℕ) (h w : ℕ) (d : ℕ) (due : Reckoned 131072 (cond
     start-is = let one = own .is in let others = waits .is in omega arith
 
     pub busy-settled : (top : ℕ) (x : Option ℕ) → top ≡ cond (ltb 0 (b ! h)) h (h + 1) → x ≡ Settles T B o top (w + mine + above) d
-        → x ≡ busyTest T B b o h w
+        → x ≡ busyLength T B b o h w
     busy-settled = busy-from (w + mine + above) start-is

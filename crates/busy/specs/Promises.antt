@@ -8,13 +8,13 @@ use lib.Dec.{ltb, leb}
 use lib.ListN.{length}
 use Rattle.basis.specs.Words.{padded}
 use Rattle.rules.specs.Numbers.{mostPartitions}
-use Rattle.rules.specs.BusyLength.{busyTest, passes}
+use Rattle.rules.specs.BusyLength.{busyLength, passes}
 use Rattle.rules.specs.Candidates.{candidates, inversion}
 use Rattle.busy.specs.Spans.{spanAs}
 use Rattle.busy.specs.declared.Span.{Span}
 
 abbrev pub BusyLengthIs : List ℕ → List ℕ → List ℕ → List ℕ → ℕ → ℕ → Span → Type 0
-BusyLengthIs T B b o h w r = spanAs r ≡ cond (ltb h mostPartitions) (busyTest T B b o h w) none
+BusyLengthIs T B b o h w r = spanAs r ≡ cond (ltb h mostPartitions) (busyLength T B b o h w) none
 
 abbrev pub PassesIs : List ℕ → List ℕ → List ℕ → List ℕ → ℕ → ℕ → Bool → Type 0
 PassesIs T B b o h w r = r ≡ (ltb h mostPartitions && passes T B b o h w)

@@ -5,7 +5,7 @@ ghost use Prim.Native.Nat.{suc, _+_, _*_, _<_, _≤_};
 ghost use lib.Dec.{ltb};
 ghost use Rattle.basis.specs.Words.{_!_, sumBelow, settle};
 ghost use Rattle.basis.specs.Reckoned.{Reckoned};
-ghost use Rattle.rules.specs.BusyLength.{arrivals, refill, busyTest};
+ghost use Rattle.rules.specs.BusyLength.{arrivals, refill, busyLength};
 ghost use Rattle.busy.specs.Promises.{BusyLengthIs, PassesIs};
 ghost use Rattle.busy.specs.Inner.{filling, Going};
 ghost use Rattle.busy.specs.Spans.{spanAs};
@@ -131,7 +131,7 @@ fn busy<'t, 's>(
     w: u64,
 ) -> Span
     requires { ⌜ h < 16 ⌝ }
-    ensures { λ r. ⌜ spanAs r ≡ busyTest (now (period .entry)) (now (budget .entry)) (now (b .entry)) (now (o .entry)) h w ⌝ }
+    ensures { λ r. ⌜ spanAs r ≡ busyLength (now (period .entry)) (now (budget .entry)) (now (b .entry)) (now (o .entry)) h w ⌝ }
 {
     let deadline = due(period[h], b[h], o[h]);
     if w > deadline {

@@ -2,30 +2,21 @@
 use Prim.Native.Nat.{ℕ}
 use mathlib.Core.List.{List, [], _∷_}
 use mathlib.Core.Path.{_≡_, refl}
-use Rattle.basis.specs.Words.{ceil, sumBelow, total, has, all, those, first, filled, settle}
-use Rattle.rules.specs.Numbers.{partitionInRange, firstBadPartition, pairInRange, firstBadPair}
-use Rattle.rules.specs.Admission.{demand, atRest, responseWithin, firstUnadmitted}
-use Rattle.rules.specs.FreshStart.{freshB, freshO, freshStart}
-use Rattle.rules.specs.BusyLength.{arrivals, active, busyStart, refill, busySum, deadline, busyTest, passes}
-use Rattle.rules.specs.Candidates.{mayRun, members, idleListed, candidates, idle}
-use Rattle.rules.specs.Weights.{weight, idleWeight, memberWeights, weights}
-use Rattle.rules.specs.Pick.{position, firstExceeding, S, decision}
-use Rattle.rules.specs.Tick.{spend, replenishes, nextB, nextO, passTime, tick, tickAllowed}
-use Rattle.rules.specs.Release.{release, releaseAllowed}
-use Rattle.rules.specs.Run.{run}
-use Rattle.rules.specs.Refusals.{refusal}
+use Rattle.rules.specs.Candidates.{idle}
+use Rattle.rules.specs.Pick.{decision}
 use Rattle.rules.specs.declared.Table.{Table}
 use Rattle.rules.specs.declared.Refusal.the-variants.{NotListed}
 use Rattle.guarantee.specs.Histories.{tickTo, releaseOf}
 use Rattle.guarantee.specs.Losses.{two}
-use Rattle.ranges.specs.Outcome.{unlessRefused}
-use Rattle.ranges.specs.Verdicts.{verdictAs}
-use Rattle.ranges.specs.declared.Verdict.the-variants as verdict
+use Rattle.verdicts.specs.Outcome.{unlessRefused}
+use Rattle.verdicts.specs.Verdicts.{verdictAs}
+use Rattle.verdicts.specs.declared.Verdict.the-variants as verdict
 use Rattle.draw.specs.declared.Decision.the-variants as decided-as
 use Rattle.scheduler.specs.Promises.{change, FreshIs}
 use Rattle.scheduler.specs.declared.State.{State}
 use Rattle.scheduler.specs.declared.Changed.{Changed}
 use Rattle.runs.specs.Promises.{stepped as step, runs}
+use Rattle.rules.specs.Worked.{worked}
 use Rattle.calls.specs.Calls.{Call, decided, stepped, ran, ticked, released, Promised, leaves, events, AllPromised, leavesAfter, history}
 
 -- 01's first table, (4,1) and (6,2)
@@ -57,11 +48,11 @@ calls =
     ∷ []
 
 pub starts : FreshIs table (state 0 0 0 0) start
-unfolding ceil sumBelow all first filled settle partitionInRange firstBadPartition demand atRest responseWithin firstUnadmitted freshB freshO freshStart refusal verdictAs change
+unfolding worked verdictAs change
 starts = refl
 
 pub promised : AllPromised table (start .state) calls
-unfolding ceil sumBelow total has all those first filled settle partitionInRange firstBadPartition pairInRange firstBadPair arrivals active busyStart refill busySum deadline busyTest passes mayRun members idleListed candidates weight idleWeight memberWeights weights position firstExceeding S decision spend replenishes nextB nextO passTime tick tickAllowed release releaseAllowed run refusal unlessRefused verdictAs change step runs Promised leaves AllPromised
+unfolding worked unlessRefused verdictAs change step runs Promised leaves AllPromised
 promised = (refl, (refl, (refl, (refl, (refl, (refl, tt))))))
 
 -- what happened, and the state that it left

@@ -2,10 +2,11 @@
 use mathlib.Core.Path.{_≡_, refl, sym, _∙_, ap, subst}
 use mathlib.Core.List.{List, [], _∷_, _++_, append-assoc}
 use mathlib.Core.Option.{none}
+use Rattle.rules.specs.Records.{tableBad, unadmitted}
 use Rattle.basis.specs.Words.{has}
 use Rattle.rules.specs.Numbers.{Pairs}
 use Rattle.rules.specs.FreshStart.{freshStart}
-use Rattle.rules.specs.Refusals.{badTable, notAdmitted, refusal}
+use Rattle.rules.specs.Refusals.{refusal}
 use Rattle.rules.specs.declared.Table.{Table}
 use Rattle.laws.proofs.Refusals.{no-ground}
 use Rattle.laws.proofs.Admission.{admitted-exactly}
@@ -13,7 +14,7 @@ use Rattle.guarantee.specs.Histories.{Event, tickTo, ToTheNext}
 use Rattle.guarantee.specs.Guarantee.{Guarantee}
 use Rattle.guarantee.proofs.Histories.{after-append, allowed-before, allowed-both}
 use Rattle.guarantee.proofs.Guaranteed.{guaranteed}
-use Rattle.ranges.specs.declared.Verdict.the-variants as verdict
+use Rattle.verdicts.specs.declared.Verdict.the-variants as verdict
 use Rattle.scheduler.specs.States.{pairs}
 use Rattle.scheduler.specs.Promises.{FreshIs}
 use Rattle.scheduler.specs.declared.State.{State}
@@ -63,7 +64,7 @@ standing-code-keeps t s calls admits here p = keeps t admits s calls here p
 
 -- ---- a fresh start that isn't refused
 module _ (t : Table) (old : State) (r : Changed) (fresh : FreshIs t old r) (good : r .verdict ≡ verdict.Good) where
-  started : (refusal (badTable (t .count) (t .period) (t .budget) (t .phase) ∷ notAdmitted (t .count) (t .period) (t .budget) ∷ []) ≡ none)
+  started : (refusal (tableBad t ∷ unadmitted t ∷ []) ≡ none)
       × (pairs (r .state) ≡ freshStart (t .count) (t .period) (t .budget) (t .phase))
   started = change-made r _ (pairs old) _ fresh good
 

@@ -23,19 +23,19 @@ use Rattle.laws.proofs.Run.{run-length}
 use Rattle.guarantee.specs.Histories.{Event, tickTo, releaseOf, scheduler, allowed, next, allAllowed, after}
 use Rattle.guarantee.specs.Guarantee.{Follows, stateAfter}
 use Rattle.guarantee.proofs.Histories.{allowed-all}
-use Rattle.ranges.specs.Verdicts.{verdictAs}
-use Rattle.ranges.specs.declared.Verdict.{Verdict}
-use Rattle.ranges.specs.declared.Verdict.the-variants as verdict
+use Rattle.verdicts.specs.Verdicts.{verdictAs}
+use Rattle.verdicts.specs.declared.Verdict.{Verdict}
+use Rattle.verdicts.specs.declared.Verdict.the-variants as verdict
 use Rattle.draw.specs.Promises.{decisionAs}
 use Rattle.draw.specs.declared.Decision.{Decision}
 use Rattle.draw.specs.declared.Decision.the-variants as decided-as
-use Rattle.scheduler.specs.States.{pairs}
+use Rattle.scheduler.specs.States.{pairs, decisionOf, tickOf}
 use Rattle.scheduler.specs.Promises.{Change, change, changedAs}
 use Rattle.scheduler.specs.declared.State.{State}
 use Rattle.scheduler.specs.declared.Changed.{Changed}
 use Rattle.runs.specs.Promises.{Step, steppedAs, stepped as step, Runs, runs, ranAs}
 use Rattle.runs.specs.declared.Stepped.{Stepped}
-use Rattle.ranges.proofs.Outcomes.{given-as, never-both}
+use Rattle.verdicts.proofs.Outcomes.{given-as, never-both}
 use Rattle.calls.specs.Calls.{Call, decided, stepped, ran, ticked, released, Promised, leaves, ifMade, picked, events}
 
 -- ---- over the rules: one event, and a run
@@ -139,10 +139,10 @@ module _ (t : Table) (s : State) where
   run-fills r last buffer (some why) whole e made = some-is-none made
 
   module _ (table : TableInRange (t .count) (t .period) (t .budget) (t .phase)) (here : StateInRange (t .count) (t .period) (t .budget) (s .b) (s .o)) where
-    decision-leads : (word : ℕ) → let pick : ℕ = decision (t .count) (t .period) (t .budget) (s .b) (s .o) word in
-        Leads (t .count) (t .period) (t .budget) (pairs s) (tickTo pick ∷ []) (tick (t .count) (t .period) (t .budget) (s .b) (s .o) pick)
+    decision-leads : (word : ℕ) → let pick : ℕ = decisionOf t s word in
+        Leads (t .count) (t .period) (t .budget) (pairs s) (tickTo pick ∷ []) (tickOf t s pick)
     decision-leads word =
-        tick-leads (t .count) (t .period) (t .budget) (pairs s) (decision (t .count) (t .period) (t .budget) (s .b) (s .o) word)
+        tick-leads (t .count) (t .period) (t .budget) (pairs s) (decisionOf t s word)
         (decision-allowed (t .count) (t .period) (t .budget) (t .phase) (s .b) (s .o) table here word)
 
     pub call-happens : (c : Call) → Promised t s c → Happens (events c) (leaves s c)

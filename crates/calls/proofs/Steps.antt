@@ -5,22 +5,21 @@ use mathlib.Core.Bool.{Bool}
 use mathlib.Core.List.{[], _∷_}
 use mathlib.Core.Option.{Option, some, none}
 use lib.ListN.{length}
+use Rattle.rules.specs.Records.{tableBad}
+use Rattle.scheduler.specs.States.{stateBad, pairs, decisionOf, tickOf, unlisted}
 use Rattle.basis.specs.Words.{has, unless}
 use Rattle.rules.specs.Numbers.{Pairs, TableInRange, StateInRange}
 use Rattle.rules.specs.Pick.{decision}
-use Rattle.rules.specs.Tick.{tick}
-use Rattle.rules.specs.Refusals.{Refused, ground, notListed, refusal}
+use Rattle.rules.specs.Refusals.{Refused, ground, refusal}
 use Rattle.rules.specs.declared.Table.{Table}
-use Rattle.laws.proofs.Refusals.{no-ground}
+use Rattle.laws.proofs.Refusals.{no-ground, Late, four, late-last, late-alone, refused-first, refused-then}
 use Rattle.laws.proofs.Pick.{decision-allowed}
-use Rattle.ranges.specs.Outcome.{refused, unlessRefused}
-use Rattle.ranges.specs.Verdicts.{verdictAs}
-use Rattle.ranges.specs.declared.Verdict.the-variants as verdict
-use Rattle.laws.proofs.Refusals.{Late, four, late-last, late-alone, refused-first, refused-then}
+use Rattle.verdicts.specs.Outcome.{refused, unlessRefused}
+use Rattle.verdicts.specs.Verdicts.{verdictAs}
+use Rattle.verdicts.specs.declared.Verdict.the-variants as verdict
 use Rattle.draw.specs.Promises.{DecideIs}
 use Rattle.draw.specs.declared.Decision.{Decision}
-use Rattle.scheduler.specs.States.{pairs}
-use Rattle.scheduler.specs.Promises.{Change, change, changedAs, table, state, TickIs}
+use Rattle.scheduler.specs.Promises.{Change, change, changedAs, TickIs}
 use Rattle.runs.specs.Promises.{Step, stepped, StepIs}
 use Rattle.scheduler.specs.declared.State.{State}
 use Rattle.scheduler.specs.declared.Changed.{Changed}
@@ -37,19 +36,19 @@ no-third x y {k} late = go (refusal (ground 1 x ∷ ground 3 y ∷ [])) refl
 
 -- a tick for what a word picks is not refused
 pub decision-ticks : (t : Table) (s : State) (word : ℕ) → TableInRange (t .count) (t .period) (t .budget) (t .phase) → StateInRange (t .count) (t .period) (t .budget) (s .b) (s .o)
-    → refusal (table t s ∷ state t s ∷ notListed (t .count) (t .period) (t .budget) (s .b) (s .o) (decision (t .count) (t .period) (t .budget) (s .b) (s .o) word) ∷ []) ≡ none
+    → refusal (tableBad t ∷ stateBad t s ∷ unlisted t s (decisionOf t s word) ∷ []) ≡ none
 unfolding refusal
 decision-ticks t s word good here =
-    ap (λ (a : Bool). refusal (table t s ∷ state t s ∷ ground 5 (unless a (decision (t .count) (t .period) (t .budget) (s .b) (s .o) word)) ∷ []))
+    ap (λ (a : Bool). refusal (tableBad t ∷ stateBad t s ∷ ground 5 (unless a (decisionOf t s word)) ∷ []))
     (decision-allowed (t .count) (t .period) (t .budget) (t .phase) (s .b) (s .o) good here word)
     ∙ rw (good, here .pairs)
 
 module _ (t : Table) (s : State) (word : ℕ) (r : Stepped) (made : StepIs t s word r) where
   abbrev picked : ℕ
-  picked = decision (t .count) (t .period) (t .budget) (s .b) (s .o) word
+  picked = decisionOf t s word
 
   abbrev next : Pairs
-  next = tick (t .count) (t .period) (t .budget) (s .b) (s .o) picked
+  next = tickOf t s picked
 
   -- what a step says is what a decision over its word says
   said : (x : Option Refused) → stepped x (pairs s) next picked .says ≡ unlessRefused x picked
@@ -60,11 +59,11 @@ module _ (t : Table) (s : State) (word : ℕ) (r : Stepped) (made : StepIs t s w
   pub step-decides : (d : Decision) → DecideIs t (s .b) (s .o) (word ∷ []) d → r .decision ≡ d
   step-decides d decided =
       decision-injective (r .decision) d
-      (ap (λ (x : Step). x .says) made ∙ said (refusal (table t s ∷ state t s ∷ [])) ∙ ap (λ (x : Option Refused). unlessRefused x picked) (sym (no-third _ _ four)) ∙ sym decided)
+      (ap (λ (x : Step). x .says) made ∙ said (refusal (tableBad t ∷ stateBad t s ∷ [])) ∙ ap (λ (x : Option Refused). unlessRefused x picked) (sym (no-third _ _ four)) ∙ sym decided)
 
   -- where it isn't refused, the tick for its pick isn't either, and gives the same state
-  module _ (bs : length (s .b) ≡ 16) (os : length (s .o) ≡ 16) (fine : refusal (table t s ∷ state t s ∷ []) ≡ none) where
-    ticks : refusal (table t s ∷ state t s ∷ notListed (t .count) (t .period) (t .budget) (s .b) (s .o) picked ∷ []) ≡ none
+  module _ (bs : length (s .b) ≡ 16) (os : length (s .o) ≡ 16) (fine : refusal (tableBad t ∷ stateBad t s ∷ []) ≡ none) where
+    ticks : refusal (tableBad t ∷ stateBad t s ∷ unlisted t s picked ∷ []) ≡ none
     unfolding has
     ticks = decision-ticks t s word (no-ground _ fine 1 refl) (record { budgets = bs; offsets = os; pairs = no-ground _ fine 3 refl })
 

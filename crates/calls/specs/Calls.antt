@@ -4,8 +4,8 @@ use mathlib.Core.List.{List, [], _∷_, _++_, map}
 use lib.ListN.{length, take}
 use Rattle.rules.specs.declared.Table.{Table}
 use Rattle.guarantee.specs.Histories.{Event, tickTo, releaseOf}
-use Rattle.ranges.specs.declared.Verdict.{Verdict}
-use Rattle.ranges.specs.declared.Verdict.the-variants as verdict
+use Rattle.verdicts.specs.declared.Verdict.{Verdict}
+use Rattle.verdicts.specs.declared.Verdict.the-variants as verdict
 use Rattle.draw.specs.Promises.{DecideIs}
 use Rattle.draw.specs.declared.Decision.{Decision}
 use Rattle.draw.specs.declared.Decision.the-variants as decision

@@ -9,7 +9,7 @@ use Rattle.rules.specs.Tick.{replenishes}
 use Rattle.rules.specs.declared.Table.{Table}
 use Rattle.guarantee.specs.Histories.{Event, tickTo, Scheduler, scheduler, EndsReplenished, ToTheNext}
 use Rattle.guarantee.specs.Guarantee.{NothingLeft, AdmittedTable, StandingState, Follows, stateAfter, AddsUp}
-use Rattle.ranges.specs.declared.Verdict.the-variants as verdict
+use Rattle.verdicts.specs.declared.Verdict.the-variants as verdict
 use Rattle.draw.specs.Promises.{DecideIs}
 use Rattle.draw.specs.declared.Decision.the-variants as decision
 use Rattle.scheduler.specs.States.{pairs}

@@ -10,10 +10,10 @@ use Rattle.basis.specs.Words.{has, padded}
 use Rattle.rules.specs.Candidates.{candidates, inversion}
 use Rattle.rules.specs.Refusals.{Refused, Ground, refusal}
 use Rattle.rules.specs.declared.Refusal.{Refusal}
-use Rattle.ranges.specs.Verdicts.{verdictAs}
-use Rattle.ranges.specs.declared.Verdict.{Verdict}
-use Rattle.ranges.specs.declared.Verdict.the-variants as verdict
-use Rattle.ranges.proofs.Verdicts.{verdict-refused, verdict-good}
+use Rattle.verdicts.specs.Verdicts.{verdictAs}
+use Rattle.verdicts.specs.declared.Verdict.{Verdict}
+use Rattle.verdicts.specs.declared.Verdict.the-variants as verdict
+use Rattle.verdicts.proofs.Verdicts.{verdict-refused, verdict-good}
 use Rattle.busy.specs.Promises.{Found, candidatesOf, SearchIs}
 use Rattle.busy.proofs.Listed.{found-list}
 use Rattle.candidates.specs.Promises.{Listing, listing}

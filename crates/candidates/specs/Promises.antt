@@ -5,11 +5,12 @@ use mathlib.Core.Bool.{Bool}
 use mathlib.Core.List.{List, [], _∷_}
 use mathlib.Core.Option.{Option, some, none}
 use lib.ListN.{length}
+use Rattle.rules.specs.Records.{tableBad, pairsBad}
 use Rattle.basis.specs.Words.{has, padded}
 use Rattle.rules.specs.Candidates.{candidates, inversion}
-use Rattle.rules.specs.Refusals.{Refused, badTable, badState, refusal}
+use Rattle.rules.specs.Refusals.{Refused, refusal}
 use Rattle.rules.specs.declared.Table.{Table}
-use Rattle.ranges.specs.Verdicts.{verdictAs}
+use Rattle.verdicts.specs.Verdicts.{verdictAs}
 use Rattle.busy.specs.Promises.{places, candidatesOf}
 use Rattle.candidates.specs.declared.Listed.{Listed}
 
@@ -33,7 +34,7 @@ listing (some r) xs = record { list = padded places []; length = 0; refused = so
 -- the candidate list: refusals 1 and 3
 abbrev pub candidatesSay : Table → List ℕ → List ℕ → Listing
 candidatesSay t b o =
-    listing (refusal (badTable (t .count) (t .period) (t .budget) (t .phase) ∷ badState (t .count) (t .period) (t .budget) b o ∷ []))
+    listing (refusal (tableBad t ∷ pairsBad t b o ∷ []))
     (candidates (t .count) (t .period) (t .budget) b o inversion)
 
 abbrev pub CandidatesIs : Table → List ℕ → List ℕ → Listed → Type 0

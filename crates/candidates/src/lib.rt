@@ -6,9 +6,9 @@ ghost use lib.ListN as Seq;
 ghost use Rattle.basis.specs.Words.{has};
 ghost use Rattle.candidates.specs.Promises.{MemberIs, CandidatesIs};
 use busy::search::search;
-use ranges::Verdict;
-use ranges::judge;
+use pairs::judge;
 use rules::Table;
+use verdicts::Verdict;
 
 // The candidate list as an answer. On a refusal all places are 0.
 pub struct Listed {

@@ -1,6 +1,6 @@
 -- From the list and its weights to what the calls say.
-use Prim.Native.Nat.{ℕ, _+_, _%_, _≤_, _<_}
-use mathlib.Core.Path.{_≡_, refl, sym, _∙_, ap, ap₂, subst}
+use Prim.Native.Nat.{ℕ, _+_, _≤_, _<_}
+use mathlib.Core.Path.{_≡_, refl, sym, _∙_, ap, subst}
 use mathlib.Core.Bool.{Bool, true, false, cond}
 use mathlib.Core.List.{List, [], _∷_, _++_, map}
 use mathlib.Core.Logic.{_⊎_, inl, inr, ⊎-elim}
@@ -20,13 +20,14 @@ use Rattle.rules.specs.declared.Refusal.{Refusal}
 use Rattle.laws.proofs.Tests.{or-left, or-right, below-or-not}
 use Rattle.laws.proofs.Places.{has-entry}
 use Rattle.laws.proofs.Candidates.{member-listed, candidate-cases}
-use Rattle.ranges.specs.Outcome.{Outcome, refused, gives, unlessRefused}
-use Rattle.ranges.specs.Verdicts.{verdictAs}
-use Rattle.ranges.specs.declared.Verdict.{Verdict}
-use Rattle.ranges.specs.declared.Verdict.the-variants as verdict
+use Rattle.verdicts.specs.Outcome.{Outcome, refused, gives, unlessRefused}
+use Rattle.verdicts.specs.Verdicts.{verdictAs}
+use Rattle.verdicts.specs.declared.Verdict.{Verdict}
+use Rattle.verdicts.specs.declared.Verdict.the-variants as verdict
 use Rattle.laws.proofs.Refusals.{four, late-last}
-use Rattle.ranges.proofs.Verdicts.{verdict-refused, verdict-good, refused-early}
-use Rattle.ranges.proofs.Outcomes.{late-decides, few-of-state}
+use Rattle.verdicts.proofs.Verdicts.{verdict-refused, verdict-good, refused-early}
+use Rattle.verdicts.proofs.Outcomes.{late-decides}
+use Rattle.pairs.proofs.Good.{few-of-state}
 use Rattle.busy.specs.Promises.{Found, candidatesOf, SearchIs}
 use Rattle.laws.proofs.Padded.{padded-used, padded-long}
 use Rattle.busy.proofs.Listed.{found-few, found-fits, found-list}
@@ -106,10 +107,10 @@ module _ (n : ℕ) (T B b o : List ℕ) where
 
       -- the decision over the list and its weights
       drawn : (word : ℕ) → n ≤ 16
-          → firstExceeding (word % s .sum) 0 (candidatesOf n T B b o) (weighed b o 0 (candidatesOf n T B b o)) ≡ cond (leb n 16) (decision n T B b o word) idle
-      unfolding decision position S
+          → firstExceeding (position word (s .sum)) 0 (candidatesOf n T B b o) (weighed b o 0 (candidatesOf n T B b o)) ≡ cond (leb n 16) (decision n T B b o word) idle
+      unfolding decision S
       drawn word few =
-          (λ i. firstExceeding (word % all-of-it i) 0 (whole few i) (each i))
+          (λ i. firstExceeding (position word (all-of-it i)) 0 (whole few i) (each i))
           ∙ sym (ap (λ (a : Bool). cond a (decision n T B b o word) idle) (le-leb n 16 few))
         where
           each : weighed b o 0 (candidatesOf n T B b o) ≡ weights n T B b o inversion
@@ -123,18 +124,20 @@ module _ (n : ℕ) (T B b o : List ℕ) where
       draws-idle word e = ⊎-elim many few (below-or-not 16 n)
         where
           few : n ≤ 16 → ChooseIs n T B b o word 255
-          few l = sym (weightless (word % s .sum) (candidatesOf n T B b o) _ (sym sum-is ∙ e)) ∙ drawn word l
+          few l = sym (weightless (position word (s .sum)) (candidatesOf n T B b o) _ (sym sum-is ∙ e)) ∙ drawn word l
 
           many : 16 < n → ChooseIs n T B b o word 255
           many l = sym (ap (λ (a : Bool). cond a (decision n T B b o word) idle) (lt-leb n 16 l))
 
-      pub draws : (word pick : ℕ) → (s .sum ≡ 0 → ⊥) → pick ≡ firstExceeding (word % s .sum) 0 (take (r .length) (r .list)) (take (r .length) (s .weights))
+      pub draws : (word at pick : ℕ) → (s .sum ≡ 0 → ⊥) → at ≡ position word (s .sum) → pick ≡ firstExceeding at 0 (take (r .length) (r .list)) (take (r .length) (s .weights))
           → ChooseIs n T B b o word pick
       unfolding weighed total
-      draws word pick some-weight e =
-          e ∙ ap₂ (λ (cs xs : List ℕ). firstExceeding (word % s .sum) 0 cs xs) (found-list n T B b o r found) weights-used ∙ ⊎-elim many (drawn word) (below-or-not 16 n)
+      draws word at pick some-weight there e =
+          e
+          ∙ (λ i. firstExceeding (there i) 0 (found-list n T B b o r found i) (weights-used i))
+          ∙ ⊎-elim many (drawn word) (below-or-not 16 n)
         where
-          many : 16 < n → firstExceeding (word % s .sum) 0 (candidatesOf n T B b o) (weighed b o 0 (candidatesOf n T B b o)) ≡ cond (leb n 16) (decision n T B b o word) idle
+          many : 16 < n → firstExceeding (position word (s .sum)) 0 (candidatesOf n T B b o) (weighed b o 0 (candidatesOf n T B b o)) ≡ cond (leb n 16) (decision n T B b o word) idle
           many l = absurd (some-weight (sum-is ∙ ap (λ (a : Bool). total (weighed b o 0 (cond a (candidates n T B b o inversion) []))) (lt-leb n 16 l) ∙ nothing))
             where
               nothing : total (weighed b o 0 []) ≡ 0

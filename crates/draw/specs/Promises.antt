@@ -6,15 +6,16 @@ use mathlib.Core.List.{List, [], _∷_}
 use mathlib.Core.Option.{Option, some, none}
 use lib.Dec.{leb}
 use lib.ListN.{length}
+use Rattle.rules.specs.Records.{tableBad, pairsBad}
 use Rattle.basis.specs.Words.{_!_, padded}
 use Rattle.rules.specs.Numbers.{mostPartitions}
 use Rattle.rules.specs.Candidates.{candidates, inversion, idle}
 use Rattle.rules.specs.Weights.{weights}
 use Rattle.rules.specs.Pick.{decision}
-use Rattle.rules.specs.Refusals.{Refused, refusedAs, badTable, badState, noWord, refusal}
+use Rattle.rules.specs.Refusals.{Refused, refusedAs, noWord, refusal}
 use Rattle.rules.specs.declared.Table.{Table}
-use Rattle.ranges.specs.Outcome.{Outcome, refused, gives, unlessRefused}
-use Rattle.ranges.specs.Verdicts.{verdictAs}
+use Rattle.verdicts.specs.Outcome.{Outcome, refused, gives, unlessRefused}
+use Rattle.verdicts.specs.Verdicts.{verdictAs}
 use Rattle.busy.specs.Promises.{places}
 use Rattle.draw.specs.declared.Weighed.{Weighed}
 use Rattle.draw.specs.declared.Decision.{Decision}
@@ -41,7 +42,7 @@ weighing (some r) cs xs = record { list = padded places []; weights = padded pla
 -- the weights beside the candidates: refusals 1 and 3
 abbrev pub weightsSay : Table → List ℕ → List ℕ → Weighing
 weightsSay t b o =
-    weighing (refusal (badTable (t .count) (t .period) (t .budget) (t .phase) ∷ badState (t .count) (t .period) (t .budget) b o ∷ []))
+    weighing (refusal (tableBad t ∷ pairsBad t b o ∷ []))
     (candidates (t .count) (t .period) (t .budget) b o inversion) (weights (t .count) (t .period) (t .budget) b o inversion)
 
 abbrev pub WeightsAre : Table → List ℕ → List ℕ → Weighed → Type 0
@@ -55,7 +56,7 @@ decisionAs (decided.Refused r) = refused (refusedAs r)
 -- one decision, by the first of the words: refusals 1, 3 and 4
 abbrev pub decideSays : Table → List ℕ → List ℕ → List ℕ → Outcome ℕ
 decideSays t b o words =
-    unlessRefused (refusal (badTable (t .count) (t .period) (t .budget) (t .phase) ∷ badState (t .count) (t .period) (t .budget) b o ∷ noWord words ∷ []))
+    unlessRefused (refusal (tableBad t ∷ pairsBad t b o ∷ noWord words ∷ []))
     (decision (t .count) (t .period) (t .budget) b o (words ! 0))
 
 abbrev pub DecideIs : Table → List ℕ → List ℕ → List ℕ → Decision → Type 0

@@ -6,15 +6,15 @@ ghost use lib.ListN.{take};
 ghost use lib.ListN as Seq;
 ghost use Rattle.rules.specs.Candidates.{idle};
 ghost use Rattle.rules.specs.Weights.{idleWeight};
-ghost use Rattle.rules.specs.Pick.{firstExceeding};
+ghost use Rattle.rules.specs.Pick.{position, firstExceeding};
 ghost use Rattle.basis.specs.Reckoned.{Reckoned};
 ghost use Rattle.draw.specs.Inner.{weightOf, Usable, ScalesAre};
 ghost use Rattle.draw.specs.Promises.{ChooseIs, WeightsAre, DecideIs};
 use busy::search::search;
-use ranges::Verdict;
-use ranges::judge;
+use pairs::judge;
 use rules::Refusal;
 use rules::Table;
+use verdicts::Verdict;
 
 // The weights beside the list, as an answer. On a refusal all places are 0.
 pub struct Weighed {
@@ -106,6 +106,14 @@ fn pick_at(list: &[u8; 17], weights: &[u32; 17], length: usize, at: u64) -> u8
     255
 }
 
+// Where a word points: the remainder by the sum of the weights.
+fn position(word: u32, sum: u64) -> u64
+    requires { ⌜ 0 < sum ⌝ }
+    ensures { λ r. ⌜ r ≡ position word sum ⌝ }
+{
+    (word as u64) % sum
+}
+
 // One decision: the pick that the word makes. No table has more than 16 partitions, and for those it is idle.
 pub fn choose<'t, 's>(
     n: usize,
@@ -124,7 +132,7 @@ pub fn choose<'t, 's>(
     if sum == 0 {
         return 255;
     }
-    let at = (word as u64) % sum;
+    let at = position(word, sum);
     pick_at(&list, &weights, length, at)
 }
 
@@ -145,7 +153,7 @@ pub fn weights<'s>(t: Table, b: &'s [u16; 16], o: &'s [u16; 16]) -> Weighed
     let mut list = [0u8; 17];
     let mut weights = [0u32; 17];
     let length = search(n, &t.period, &t.budget, b, o, &mut list);
-    let sum = weigh(b, o, &list, length, &mut weights);
+    weigh(b, o, &list, length, &mut weights);
     Weighed {
         list,
         weights,

@@ -3,22 +3,13 @@ use Prim.Native.Nat.{ℕ}
 use mathlib.Core.Path.{_≡_, refl}
 use mathlib.Core.List.{List, [], _∷_, _++_}
 use lib.ListN.{length}
-use Rattle.basis.specs.Words.{ceil, sumBelow, total, has, all, those, first, filled, settle, padded}
+use Rattle.basis.specs.Words.{has}
 use Rattle.basis.specs.Rows.{Row, _is_, Hold, answer}
-use Rattle.rules.specs.Numbers.{partitionInRange, firstBadPartition, taskInRange, firstBadTask}
-use Rattle.rules.specs.Admission.{demand, atRest, responseWithin, firstUnadmitted}
-use Rattle.rules.specs.FreshStart.{freshB, freshO, freshStart}
-use Rattle.rules.specs.BusyLength.{arrivals, active, busyStart, refill, busySum, deadline, busyTest, passes}
-use Rattle.rules.specs.Candidates.{mayRun, members, idleListed, candidates}
-use Rattle.rules.specs.Weights.{weight, idleWeight, memberWeights, weights}
-use Rattle.rules.specs.Pick.{position, firstExceeding, S, decision}
-use Rattle.rules.specs.Tick.{spend, replenishes, nextB, nextO, passTime, tick}
-use Rattle.rules.specs.Release.{release, releaseAllowed}
-use Rattle.rules.specs.TaskResponse.{load, nextResponse, settledResponse, taskResponse, ownTasks, rankOf, responseOfTask}
+use Rattle.rules.specs.Release.{release}
 use Rattle.rules.specs.Refusals.{refusal}
-use Rattle.file_rules.specs.MeterFile.{meterKinds, form, isRecord, malformedAt, payload, readFrom, reading, ofKind, eventsOf, tableOf, tasksOf, eventsIn, refusalOf}
-use Rattle.file_rules.specs.Events.{eventAt}
-use Rattle.file_rules.specs.Printers.{ascii, decimalWithin, unlessRefusedFile, unlessInactive, scheduleFrom, scheduleOutput, rowsOf, responseOutput}
+use Rattle.file_rules.specs.Worked.{fileWorked}
+use Rattle.file_rules.specs.MeterFile.{meterKinds, form, isRecord, malformedAt, payload, readFrom, reading, refusalOf}
+use Rattle.file_rules.specs.Printers.{ascii, decimalWithin, unlessRefusedFile, scheduleOutput, responseOutput}
 
 -- "`08 00 01 00 04 00 01 00 00 00`, `08 00 01 00 06 00 02 00 00 00`"
 abbrev partitions : List ℕ
@@ -33,7 +24,7 @@ fileCase = partitions ++ word 0x20 0x4e ++ word 0x40 0x9c ++ word 0x60 0xea ++ w
 
 -- "The schedule printer writes:"
 pub file-case-schedule : scheduleOutput fileCase ≡ ascii "tick pick\n0 1\n1 idle\n2 idle\n3 0\n4 0\n5 1\nend 6\n"
-unfolding ceil sumBelow total has all those first filled settle padded partitionInRange firstBadPartition taskInRange firstBadTask demand atRest responseWithin firstUnadmitted freshB freshO freshStart arrivals active busyStart refill busySum deadline busyTest passes mayRun members idleListed candidates weight idleWeight memberWeights weights position firstExceeding S decision spend replenishes nextB nextO passTime tick release releaseAllowed refusal form isRecord readFrom reading ofKind eventsOf tableOf tasksOf eventsIn refusalOf eventAt decimalWithin unlessRefusedFile unlessInactive scheduleFrom scheduleOutput
+unfolding fileWorked
 file-case-schedule = refl
 
 -- ---- files of our own
@@ -103,7 +94,7 @@ refusedFiles =
     ∷ []
 
 pub refused-files-hold : Hold refusedFiles
-unfolding ceil sumBelow total has all those first filled settle padded partitionInRange firstBadPartition taskInRange firstBadTask demand atRest responseWithin firstUnadmitted freshB freshO freshStart arrivals active busyStart refill busySum deadline busyTest passes mayRun members idleListed candidates weight idleWeight memberWeights weights position firstExceeding S decision spend replenishes nextB nextO passTime tick release releaseAllowed load nextResponse settledResponse taskResponse ownTasks rankOf responseOfTask refusal form isRecord malformedAt payload readFrom reading ofKind eventsOf tableOf tasksOf eventsIn refusalOf eventAt decimalWithin unlessRefusedFile unlessInactive scheduleFrom scheduleOutput rowsOf responseOutput
+unfolding fileWorked
 refused-files-hold = refl
 
 -- schedules
@@ -121,7 +112,7 @@ schedules =
     ∷ []
 
 pub schedules-hold : Hold schedules
-unfolding ceil sumBelow total has all those first filled settle padded partitionInRange firstBadPartition taskInRange firstBadTask demand atRest responseWithin firstUnadmitted freshB freshO freshStart arrivals active busyStart refill busySum deadline busyTest passes mayRun members idleListed candidates weight idleWeight memberWeights weights position firstExceeding S decision spend replenishes nextB nextO passTime tick release releaseAllowed load nextResponse settledResponse taskResponse ownTasks rankOf responseOfTask refusal form isRecord malformedAt payload readFrom reading ofKind eventsOf tableOf tasksOf eventsIn refusalOf eventAt decimalWithin unlessRefusedFile unlessInactive scheduleFrom scheduleOutput rowsOf responseOutput
+unfolding fileWorked
 schedules-hold = refl
 
 -- response times
@@ -134,7 +125,7 @@ responses =
     ∷ []
 
 pub responses-hold : Hold responses
-unfolding ceil sumBelow total has all those first filled settle padded partitionInRange firstBadPartition taskInRange firstBadTask demand atRest responseWithin firstUnadmitted freshB freshO freshStart arrivals active busyStart refill busySum deadline busyTest passes mayRun members idleListed candidates weight idleWeight memberWeights weights position firstExceeding S decision spend replenishes nextB nextO passTime tick release releaseAllowed load nextResponse settledResponse taskResponse ownTasks rankOf responseOfTask refusal form isRecord malformedAt payload readFrom reading ofKind eventsOf tableOf tasksOf eventsIn refusalOf eventAt decimalWithin unlessRefusedFile unlessInactive scheduleFrom scheduleOutput rowsOf responseOutput
+unfolding fileWorked
 responses-hold = refl
 
 -- all of them

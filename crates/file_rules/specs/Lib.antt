@@ -2,4 +2,7 @@
 pub mod MeterFile
 pub mod Events
 pub mod Printers
+-- all of these under one name, to compute with
+pub mod Worked
+-- and outputs that they give
 pub mod FileCase

@@ -5,9 +5,10 @@ use mathlib.Core.List.{List, [], _∷_, map}
 use mathlib.Core.Option.{Option, some, none}
 use lib.Dec.{leb, ltb, eqb}
 use lib.ListN.{length, take, drop}
+use Rattle.rules.specs.Records.{tablesBad}
 use Rattle.basis.specs.Words.{_!_, has, orElse, unless, found, padded}
 use Rattle.rules.specs.Numbers.{mostPartitions, mostTasks}
-use Rattle.rules.specs.Refusals.{Refused, malformed, badTable, badTasks, notAdmitted, refusal}
+use Rattle.rules.specs.Refusals.{Refused, malformed, refusal}
 use Rattle.rules.specs.declared.Table.{Table}
 use Rattle.rules.specs.declared.Tasks.{Tasks}
 
@@ -39,7 +40,7 @@ pub record Form : Type 0 where
   pub place : ℕ
 
 abbrev shaped : ℕ → ℕ → Form
-shaped length place = record { length = length; place = place }
+shaped bytes place = record { length = bytes; place = place }
 
 -- "Kind 1, partition: .. length 8. Kind 2, task: .. length 8. Kind 3, word: .. length 6. Kind 4, release: .. length 4."
 -- "All kind 1 come first, then kind 2, then 3 and 4 mixed." What is no kind has no place.
@@ -95,12 +96,12 @@ pub record Reading : Type 0 where
   pub fault : Option ℕ
 
 abbrev pub andThen : Record → Reading → Reading
-andThen first later = record { records = first ∷ later .records; fault = later .fault }
+andThen r later = record { records = r ∷ later .records; fault = later .fault }
 
 -- of a file over the limit nothing is read
 abbrev pub unlessOver : Option ℕ → Reading → Reading
-unlessOver none all = all
-unlessOver (some limit) all = record { records = []; fault = some limit }
+unlessOver none whole = whole
+unlessOver (some limit) whole = record { records = []; fault = some limit }
 
 module _ (kinds file : List ℕ) where
   -- from an offset on. A record has some bytes, so as many rounds as the file has bytes are enough.
@@ -178,10 +179,4 @@ module _ (file : List ℕ) where
 
   -- the refusals of a whole file: 8, 1, 9 and 2
   unfoldable pub refusalOf : Option Refused
-  refusalOf =
-      refusal
-      (malformed (reading meterKinds file .fault)
-      ∷ badTable (tableOf .count) (tableOf .period) (tableOf .budget) (tableOf .phase)
-      ∷ badTasks (tableOf .count) (tasksOf .count) (tasksOf .partition) (tasksOf .gap) (tasksOf .cost)
-      ∷ notAdmitted (tableOf .count) (tableOf .period) (tableOf .budget)
-      ∷ [])
+  refusalOf = refusal (malformed (reading meterKinds file .fault) ∷ tablesBad tableOf tasksOf)

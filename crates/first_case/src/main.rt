@@ -1,9 +1,9 @@
 // The first case of 01: (4,1) and (6,2), phases 0, from a fresh start over six words. Prints the six picks as numbers, 255 for idle.
 use libc::STDOUT_FILENO;
-use ranges::Verdict;
 use rules::Table;
 use runs::run;
 use scheduler::State;
+use verdicts::Verdict;
 
 // A pick and a newline, in decimal.
 fn show(pick: u8) {

@@ -2,19 +2,16 @@
 use mathlib.Core.List.{List, [], _∷_}
 use mathlib.Core.Path.{refl}
 use lib.ListN.{take}
-use Rattle.basis.specs.Words.{ceil, sumBelow, has, all, those, first, filled, settle}
 use Rattle.basis.specs.Rows.{Row, _is_, Hold, number, test}
-use Rattle.rules.specs.Numbers.{Pairs, partitionInRange, firstBadPartition}
-use Rattle.rules.specs.Admission.{demand, atRest, responseWithin, firstUnadmitted}
-use Rattle.rules.specs.FreshStart.{freshB, freshO, freshStart}
-use Rattle.rules.specs.BusyLength.{arrivals, active, busyStart, refill, busySum, deadline, busyTest, passes}
-use Rattle.rules.specs.Candidates.{mayRun, members, idleListed, candidates, idle}
-use Rattle.rules.specs.Tick.{spend, replenishes, nextB, nextO, passTime, tick}
-use Rattle.rules.specs.Release.{release, releaseAllowed}
+use Rattle.rules.specs.Numbers.{Pairs}
+use Rattle.rules.specs.FreshStart.{freshStart}
+use Rattle.rules.specs.Candidates.{idle}
+use Rattle.rules.specs.Tick.{spend}
 use Rattle.rules.specs.Sums.{T₁, B₁}
 use Rattle.laws.proofs.Admission.{admitted-exactly}
-use Rattle.guarantee.specs.Histories.{Event, tickTo, releaseOf, Scheduler, scheduler, allowed, next, allAllowed, after, counted, endsWith, replenishment, runs, givesUp, ticksRun, ticksGivenUp, replenishments, ToTheNext}
-use Rattle.guarantee.specs.Guarantee.{NothingLeft, Follows, AddsUp, AdmittedTable}
+use Rattle.guarantee.proofs.Worked.{historyWorked}
+use Rattle.guarantee.specs.Histories.{Event, tickTo, releaseOf, Scheduler, scheduler, allowed, allAllowed, after, endsWith, replenishment, ticksRun, ticksGivenUp, replenishments, ToTheNext}
+use Rattle.guarantee.specs.Guarantee.{NothingLeft, Follows, AddsUp, AdmittedTable, StandingState}
 
 -- 01's first table, (4,1) and (6,2), from its fresh start: the first period of partition 1, in which it runs a tick and gives one up
 abbrev scheduler₁ : Scheduler
@@ -58,27 +55,29 @@ shown =
     ∷ []
 
 pub shown-hold : Hold shown
-unfolding ceil sumBelow has all those filled settle first freshB freshO freshStart arrivals active busyStart refill busySum deadline busyTest passes mayRun members idleListed candidates spend replenishes nextB nextO passTime tick release releaseAllowed allowed next allAllowed after counted endsWith replenishment runs givesUp
+unfolding historyWorked
 shown-hold = refl
 
--- the guarantee's premises are met here: the table is admitted, every event is allowed, and the period is whole
+-- the guarantee's premises are met here: the table is admitted, the state stands, every event is allowed, and the period is whole
 pub record Met : Type 0 where
   pub table : AdmittedTable 2 T₁ B₁ []
+  pub state : StandingState 2 T₁ B₁ start
   pub follows : Follows 2 T₁ B₁ start period
   pub whole : ToTheNext (scheduler 2 T₁ B₁) 1 start period
 
 pub met : Met
-unfolding partitionInRange firstBadPartition demand atRest responseWithin firstUnadmitted ceil sumBelow has all those filled settle first freshB freshO freshStart arrivals active busyStart refill busySum deadline busyTest passes mayRun members idleListed candidates spend replenishes nextB nextO passTime tick release releaseAllowed allowed next allAllowed after counted endsWith replenishment runs givesUp
+unfolding historyWorked
 met =
     record {
       table = record { in-range = refl; admitted = admitted-exactly T₁ B₁ 2 .0 refl };
+      state = record { in-range = record { budgets = refl; offsets = refl; pairs = refl }; stands = refl };
       follows = refl;
       whole = record { last = refl; only = refl };
     }
 
 -- and what it then says of the period is just what was counted
 pub shown-adds-up : AddsUp 2 T₁ B₁ 1 start period
-unfolding ceil sumBelow has all those filled settle first freshB freshO freshStart arrivals active busyStart refill busySum deadline busyTest passes mayRun members idleListed candidates spend replenishes nextB nextO passTime tick release releaseAllowed allowed next allAllowed after counted endsWith replenishment runs givesUp
+unfolding historyWorked
 shown-adds-up = refl
 
 -- at tick 3 partition 0 has a tick left and is replenished: it runs that tick, and nothing is left

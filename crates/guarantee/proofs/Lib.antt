@@ -1,3 +1,5 @@
+-- what a history is computed by, under one name
+pub mod Worked
 -- a history worked by hand
 pub mod ByHand
 -- where all is empty or just replenished, everybody passes

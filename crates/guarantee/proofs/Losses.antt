@@ -4,17 +4,11 @@ use mathlib.Core.Path.{_≡_, refl}
 use mathlib.Core.List.{List, [], _∷_}
 use native.Mathlib.Nat.{le-refl}
 use native.Mathlib.Omega.{arith}
-use Rattle.basis.specs.Words.{ceil, sumBelow, has, all, those, first, filled, settle}
-use Rattle.rules.specs.Numbers.{Pairs, partitionInRange, firstBadPartition, pairInRange, firstBadPair}
-use Rattle.rules.specs.Admission.{demand, atRest, responseWithin, firstUnadmitted}
-use Rattle.rules.specs.FreshStart.{freshB, freshO, freshStart}
-use Rattle.rules.specs.BusyLength.{arrivals, active, busyStart, refill, busySum, deadline, busyTest, passes}
-use Rattle.rules.specs.StandingTest.{firstFailing}
+use Rattle.rules.specs.Numbers.{Pairs}
 use Rattle.rules.specs.Candidates.{mayRun, members, idleListed, candidates, idle, inversion}
-use Rattle.rules.specs.Tick.{spend, replenishes, nextB, nextO, passTime, tick}
-use Rattle.rules.specs.Release.{release, releaseAllowed}
 use Rattle.laws.proofs.Admission.{admitted-exactly}
-use Rattle.guarantee.specs.Histories.{tickTo, releaseOf, scheduler, allowed, next, allAllowed, after, counted, endsWith, replenishment, runs, givesUp}
+use Rattle.guarantee.proofs.Worked.{historyWorked}
+use Rattle.guarantee.specs.Histories.{tickTo, releaseOf, scheduler}
 use Rattle.guarantee.specs.Guarantee.{AdmittedTable, StandingState}
 use Rattle.guarantee.specs.Losses.{Loses, listBy, TemptingRulesLose, LosesWithoutStanding, LosesWithoutAdmission}
 use Rattle.guarantee.proofs.Guaranteed.{guaranteed}
@@ -32,7 +26,7 @@ unfolding candidates members idleListed
 built-alike n T B s = refl
 
 pub tempting-rules-lose : TemptingRulesLose
-unfolding ceil sumBelow has all those first filled settle partitionInRange firstBadPartition pairInRange firstBadPair demand atRest responseWithin firstUnadmitted freshB freshO freshStart arrivals active busyStart refill busySum deadline busyTest passes firstFailing mayRun members idleListed candidates spend replenishes nextB nextO passTime tick release releaseAllowed allowed next allAllowed after counted endsWith replenishment runs givesUp
+unfolding historyWorked
 tempting-rules-lose =
     record {
       -- while 1 is inactive, nobody asks whether it can make its next period: 0 runs late in one of its own, and early in the next
@@ -86,7 +80,7 @@ tempting-rules-lose =
     }
 
 pub loses-without-standing : LosesWithoutStanding
-unfolding ceil sumBelow has all those first filled settle partitionInRange firstBadPartition pairInRange firstBadPair demand atRest responseWithin firstUnadmitted freshB freshO freshStart arrivals active busyStart refill busySum deadline busyTest passes firstFailing mayRun members idleListed candidates spend replenishes nextB nextO passTime tick release releaseAllowed allowed next allAllowed after counted endsWith replenishment runs givesUp
+unfolding historyWorked
 loses-without-standing =
     record {
       table = record { in-range = refl; admitted = admitted-exactly (2 ∷ 2 ∷ []) (1 ∷ 1 ∷ []) 2 .0 refl };
@@ -96,7 +90,7 @@ loses-without-standing =
     }
 
 pub loses-without-admission : LosesWithoutAdmission
-unfolding ceil sumBelow has all those first filled settle partitionInRange firstBadPartition pairInRange firstBadPair demand atRest responseWithin firstUnadmitted freshB freshO freshStart arrivals active busyStart refill busySum deadline busyTest passes firstFailing mayRun members idleListed candidates spend replenishes nextB nextO passTime tick release releaseAllowed allowed next allAllowed after counted endsWith replenishment runs givesUp
+unfolding historyWorked
 loses-without-admission =
     record {
       table = refl;

@@ -14,7 +14,7 @@ use Rattle.laws.proofs.Tests.{both, and-left, and-right, never, found-s
 use Rattle.laws.proofs.Places.{First, first-some, some-first, first-none, none-first}
 use Rattle.laws.proofs.Totals.{sum-same, sum-plus}
 use Rattle.rules.specs.Admission.{demand, atRest, IsR, Admitted, responseWithin, firstUnadmitted}
-use Rattle.rules.specs.BusyLength.{active, busyStart, refill, busySum, deadline, IsBusyLength, busyTest}
+use Rattle.rules.specs.BusyLength.{active, busyStart, refill, busySum, deadline, IsBusyLength, busyLength}
 use Rattle.laws.proofs.Arrivals.{arrivals-synchronous}
 use Rattle.laws.proofs.BusyLength.{Length, test-exactly, start-le-sum}
 
@@ -113,10 +113,10 @@ module _ (T B : List ℕ) where
         }
 
     -- both ways, and the busy length is R
-    pub admission-is-busy : busyTest T B B T h 0 ≡ responseWithin T B h
-    admission-is-busy = go (busyTest T B B T h 0) refl (responseWithin T B h) refl
+    pub admission-is-busy : busyLength T B B T h 0 ≡ responseWithin T B h
+    admission-is-busy = go (busyLength T B B T h 0) refl (responseWithin T B h) refl
       where
-        go : (x : Option ℕ) → busyTest T B B T h 0 ≡ x → (y : Option ℕ) → responseWithin T B h ≡ y → x ≡ y
+        go : (x : Option ℕ) → busyLength T B B T h 0 ≡ x → (y : Option ℕ) → responseWithin T B h ≡ y → x ≡ y
         go (some W) e y d = sym (some-response h W (busy-response W (test-exactly T B B T h 0 W .0 e))) ∙ d
         go none e (some R) d = sym e ∙ test-exactly T B B T h 0 R .1 (response-busy R (response-some h R d))
         go none e none d = refl

@@ -27,9 +27,6 @@ pub arrivals-most : (o T W : ℕ) → arrivals o T W ≤ ceil W T
 unfolding arrivals
 arrivals-most o T W = ceil-mono (W - o) W T (sub-le W o)
 
-pub arrivals-worst : (o T W : ℕ) → 0 < T → 0 < W → arrivals o T W ≤ suc (arrivals T T W)
-arrivals-worst o T W pos some = rw (arrivals-synchronous T W pos some) (arrivals-most o T W)
-
 -- none before the first is due; at most one before the second is
 pub arrivals-none : (o T W : ℕ) → W ≤ o → arrivals o T W ≡ 0
 unfolding arrivals

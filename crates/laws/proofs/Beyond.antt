@@ -1,6 +1,6 @@
 -- Entries beyond the count are no part of a table: no answer depends on them.
 use Prim.Native.Nat.{ℕ, suc, _+_, _≤_, _<_}
-use mathlib.Core.Path.{_≡_, refl, ap, ap₂, _∙_, fun-ext}
+use mathlib.Core.Path.{_≡_, refl, sym, ap, ap₂, _∙_, fun-ext}
 use mathlib.Core.Bool.{cond, not, _&&_, _||_}
 use mathlib.Core.List.{List, [], _∷_}
 use mathlib.Core.Option.{Option, some}
@@ -10,6 +10,7 @@ use borrow.Author.Tests.{le-ltb}
 use native.Mathlib.Omega.{arith}
 use lib.Dec.{ltb, leb, eqb}
 use Rattle.basis.specs.Words.{_!_, first, found, all, settle}
+use Rattle.laws.proofs.BusyLength.{passes-found}
 use Rattle.laws.proofs.Tests.{below-or-not}
 use Rattle.laws.proofs.Totals.{sum-same}
 use Rattle.laws.proofs.Places.{first-same, all-same, those-same}
@@ -18,7 +19,7 @@ use Rattle.laws.proofs.TaskResponse.{others-apart}
 use Rattle.rules.specs.Numbers.{mostPartitions, mostTasks, partitionInRange, firstBadPartition, taskInRange, firstBadTask, pairInRange, firstBadPair, Pairs}
 use Rattle.rules.specs.Admission.{demand, atRest, responseWithin, firstUnadmitted}
 use Rattle.rules.specs.FreshStart.{freshB, freshO, freshStart, zeros}
-use Rattle.rules.specs.BusyLength.{active, busyStart, refill, busySum, deadline, busyTest, passes}
+use Rattle.rules.specs.BusyLength.{active, busyStart, refill, busySum, deadline, busyLength, passes}
 use Rattle.rules.specs.StandingTest.{firstFailing}
 use Rattle.rules.specs.Candidates.{mayRun, members, idleListed, candidates, inversion}
 use Rattle.rules.specs.Weights.{memberWeights, weights}
@@ -89,16 +90,15 @@ module _ (n : ℕ) (T B T′ B′ : List ℕ) (t : Agree n T T′) (u : Agree n 
     unfolding deadline
     deadline-same h l = rw (t h l)
 
-    pub test-same : (h : ℕ) → h < n → (w : ℕ) → busyTest T B b o h w ≡ busyTest T′ B′ b o h w
-    unfolding busyTest
+    pub test-same : (h : ℕ) → h < n → (w : ℕ) → busyLength T B b o h w ≡ busyLength T′ B′ b o h w
+    unfolding busyLength
     test-same h l w =
         ap₂ (λ (D : ℕ) (f : ℕ → ℕ). settle (suc D) f (ltb D) (busyStart b h w))
         (deadline-same h l)
         (fun-ext (sum-same-busy h l w))
 
     passes-same : (h : ℕ) → h < n → (w : ℕ) → passes T B b o h w ≡ passes T′ B′ b o h w
-    unfolding passes
-    passes-same h l w = ap found (test-same h l w)
+    passes-same h l w = passes-found T B b o h w ∙ ap found (test-same h l w) ∙ sym (passes-found T′ B′ b o h w)
 
     pub failing-same : firstFailing n T B b o ≡ firstFailing n T′ B′ b o
     unfolding firstFailing

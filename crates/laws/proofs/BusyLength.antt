@@ -1,6 +1,6 @@
 -- The busy test: its repetition finds the least fixed point, and finds one within the deadline exactly when some W within it has a sum of at most W.
 use Prim.Native.Nat.{ℕ, _+_, _≤_}
-use mathlib.Core.Path.{_≡_, refl, ap}
+use mathlib.Core.Path.{_≡_, refl, sym, _∙_, ap}
 use mathlib.Core.Bool.{Bool, true, false, cond}
 use mathlib.Core.List.{List}
 use mathlib.Core.Logic.{_↔_}
@@ -13,7 +13,7 @@ use Rattle.basis.specs.Words.{_!_, sumBelow, found}
 use Rattle.laws.proofs.Tests.{found-some}
 use Rattle.laws.proofs.Totals.{sum-mono, sum-none}
 use Rattle.laws.proofs.Settle.{Rising, Start, up-to, settles-finds, settles-exactly}
-use Rattle.rules.specs.BusyLength.{active, busyStart, refill, busySum, deadline, IsBusyLength, busyTest, passes}
+use Rattle.rules.specs.BusyLength.{active, busyStart, refill, busySum, deadline, IsBusyLength, busyLength, passes}
 use Rattle.laws.proofs.Arrivals.{arrivals-mono, arrivals-none}
 
 -- active or empty
@@ -55,8 +55,8 @@ module _ (T B b o : List ℕ) where
   started h w = up-to (busySum T B b o h w) (deadline T b o h) (busyStart b h w) (sum-rising h w) (start-le-sum h w)
 
   -- the repetition finds the least fixed point
-  pub test-exactly : (h w W : ℕ) → (busyTest T B b o h w ≡ some W) ↔ Length h w W
-  unfolding busyTest IsBusyLength
+  pub test-exactly : (h w W : ℕ) → (busyLength T B b o h w ≡ some W) ↔ Length h w W
+  unfolding busyLength IsBusyLength
   test-exactly h w W = (
     λ p. let s = settles-exactly (started h w) W .0 p in record { least = s .0; within = ltb-false _ W (s .1) },
     λ l. settles-exactly (started h w) W .1 (l .least, le-ltb _ W (l .within)),
@@ -67,20 +67,24 @@ module _ (T B b o : List ℕ) where
     pub within : W ≤ deadline T b o h
     pub covers : busySum T B b o h w W ≤ W
 
-  witness-finds : (h w W : ℕ) → Witness h w W → (X : ℕ) × (busyTest T B b o h w ≡ some X)
-  unfolding busyTest
+  witness-finds : (h w W : ℕ) → Witness h w W → (X : ℕ) × (busyLength T B b o h w ≡ some X)
+  unfolding busyLength
   witness-finds h w W witness = settles-finds (started h w) W (witness .covers) (le-ltb _ W (witness .within))
 
+  -- a pass is a length that is found
+  pub passes-found : (h w : ℕ) → passes T B b o h w ≡ found (busyLength T B b o h w)
+  unfolding passes
+  passes-found h w = refl
+
   pub passes-witness : (h w : ℕ) → passes T B b o h w ≡ true → (W : ℕ) × Witness h w W
-  unfolding passes IsBusyLength
+  unfolding IsBusyLength
   passes-witness h w p =
-      let answer = found-some (busyTest T B b o h w) p in
+      let answer = found-some (busyLength T B b o h w) (sym (passes-found h w) ∙ p) in
       let l = test-exactly h w (answer .0) .0 (answer .1) in
       (answer .0, record { within = l .within; covers = le-of-eq (l .least .0) })
 
   pub witness-passes : (h w W : ℕ) → Witness h w W → passes T B b o h w ≡ true
-  unfolding passes
-  witness-passes h w W witness = ap found (witness-finds h w W witness .1)
+  witness-passes h w W witness = passes-found h w ∙ ap found (witness-finds h w W witness .1)
 
   pub passes-exactly : (h w : ℕ) → (passes T B b o h w ≡ true) ↔ ((W : ℕ) × Witness h w W)
   passes-exactly h w = (passes-witness h w, λ some-W. witness-passes h w (some-W .0) (some-W .1))

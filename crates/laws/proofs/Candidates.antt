@@ -1,16 +1,16 @@
 -- The candidate list: never empty, by rank with idle last, no member twice, and each partition in it is active.
 use Prim.Native.Nat.{ℕ, suc, _≤_, _<_}
-use mathlib.Core.Path.{_≡_, refl, _∙_, sym}
-use mathlib.Core.Bool.{Bool, true, false, cond, not, _||_}
+use mathlib.Core.Path.{_≡_, refl, _∙_, sym, ap}
+use mathlib.Core.Bool.{Bool, true, false, cond, not, _&&_, _||_}
 use mathlib.Core.List.{List, [], _∷_, _++_, append-nil}
 use mathlib.Core.Logic.{_⊎_, inl, inr, ⊎-elim}
 use mathlib.Core.Option.{Option, some, none}
 use native.Mathlib.Omega.{arith}
 use borrow.Author.Tests.{not-true}
 use lib.ListN.{length}
-use Rattle.basis.specs.Words.{_!_, has, all, first, Increasing}
-use Rattle.laws.proofs.Tests.{both, and-left, and-right, or-left, or-right, or-cases, never}
-use Rattle.laws.proofs.Places.{all-true, true-all, first-some, first-none, has-those, those-has, has-append, has-none, has-one, one-has, has-entry, has-some, those-increasing, increasing-more}
+use Rattle.basis.specs.Words.{_!_, has, all, those, first, Increasing}
+use Rattle.laws.proofs.Tests.{both, and-left, and-right, off-left, or-left, or-right, or-cases, never}
+use Rattle.laws.proofs.Places.{all-true, true-all, first-some, first-none, has-those, those-has, has-append, has-none, has-one, one-has, has-entry, has-some, those-increasing, those-stop, increasing-more}
 use Rattle.laws.proofs.BusyLength.{inactive-empty, quiet-passes}
 use Rattle.rules.specs.BusyLength.{active, passes}
 use Rattle.rules.specs.Candidates.{mayRun, members, idleListed, candidates, idle}
@@ -71,6 +71,15 @@ module _ (n : ℕ) (T B b o : List ℕ) (w : ℕ) where
   pub first-active-may : (c : ℕ) → ((h : ℕ) → h < c → active b h ≡ false) → mayRun T B b o w c ≡ true
   unfolding mayRun
   first-active-may c off = or-left _ (true-all c _ (λ h l. rw (off h l)))
+
+  -- "With no active partition the list is idle alone."
+  pub idle-alone : ((h : ℕ) → h < n → active b h ≡ false) → candidates n T B b o w ≡ idle ∷ []
+  unfolding candidates members idleListed those
+  idle-alone off =
+      ap (λ (xs : List ℕ). xs ++ cond (mayRun T B b o w n) (idle ∷ []) []) nobody ∙ ap (λ (a : Bool). cond a (idle ∷ []) []) (first-active-may n off)
+    where
+      nobody : those n (λ c. active b c && mayRun T B b o w c) ≡ []
+      nobody = those-stop 0 n _ (omega arith) (λ j l k. off-left _ (off j k))
 
   -- "The first failed test ends the whole search": below a partition that fails only the first active one, untested, is in
   pub failure-ends : (h c : ℕ) → h < c → passes T B b o h w ≡ false → mayRun T B b o w c ≡ true → (j : ℕ) → j < c → active b j ≡ false

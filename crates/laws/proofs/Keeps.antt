@@ -44,6 +44,10 @@ module _ (n : ℕ) (T B phase : List ℕ) (t : TableInRange n T B phase) where
   unfolding freshStart freshB freshO
   fresh-whole i l e = (started (freshB B phase) i l ∙ rw (eq-eqb (phase ! i) 0 e), started (freshO T phase) i l ∙ rw (eq-eqb (phase ! i) 0 e))
 
+  pub fresh-phase : (i : ℕ) → i < n → ¬ (phase ! i ≡ 0) → freshStart n T B phase .o ! i ≡ phase ! i
+  unfolding freshO freshStart
+  fresh-phase i l other = started (freshO T phase) i l ∙ rw (ne-eqb (phase ! i) 0 other)
+
   pub fresh-empty : (i : ℕ) → i < n → ¬ (phase ! i ≡ 0) → freshStart n T B phase .b ! i ≡ 0
   unfolding freshStart freshB
   fresh-empty i l other = started (freshB B phase) i l ∙ rw (ne-eqb (phase ! i) 0 other)

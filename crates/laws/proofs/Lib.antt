@@ -18,6 +18,7 @@ pub mod Candidates
 pub mod Weights
 pub mod Pick
 pub mod Tick
+pub mod Release
 pub mod TaskResponse
 pub mod Refusals
 -- a fresh start, a tick and a release give states in range

@@ -203,39 +203,52 @@ module _ {hs ks : List Ground} (turn : InTurn hs ks) where
   unfolding orRefused
   refused-then e = in-turn ∙ ap (λ (x : Option Refused). orRefused x (refusal ks)) e
 
+-- places in the order: behind the numbers of the file, of the table, of the tasks, and of the state
+abbrev afterFile : ℕ
+afterFile = 1
+
+abbrev afterTable : ℕ
+afterTable = 2
+
+abbrev afterTasks : ℕ
+afterTasks = 3
+
+abbrev afterState : ℕ
+afterState = 5
+
 -- 1 comes before 9, 2 and 3
 pub table-then-tasks : (x y : Option ℕ) → InTurn (ground 1 x ∷ []) (ground 9 y ∷ [])
-table-then-tasks x y = record { place = 2; early = refl; late = refl }
+table-then-tasks x y = record { place = afterTable; early = refl; late = refl }
 
 pub table-then-admission : (x y : Option ℕ) → InTurn (ground 1 x ∷ []) (ground 2 y ∷ [])
-table-then-admission x y = record { place = 2; early = refl; late = refl }
+table-then-admission x y = record { place = afterTable; early = refl; late = refl }
 
 pub table-then-state : (x y : Option ℕ) → InTurn (ground 1 x ∷ []) (ground 3 y ∷ [])
-table-then-state x y = record { place = 2; early = refl; late = refl }
+table-then-state x y = record { place = afterTable; early = refl; late = refl }
 
 -- 8 comes before all of them, and 9 before 2
 pub file-first : (x y z u : Option ℕ) → InTurn (ground 8 x ∷ []) (ground 1 y ∷ ground 9 z ∷ ground 2 u ∷ [])
-file-first x y z u = record { place = 1; early = refl; late = refl }
+file-first x y z u = record { place = afterFile; early = refl; late = refl }
 
 pub record-first : (x y z u : Option ℕ) → InTurn (ground 8 x ∷ []) (ground 1 y ∷ ground 3 z ∷ ground 6 u ∷ [])
-record-first x y z u = record { place = 1; early = refl; late = refl }
+record-first x y z u = record { place = afterFile; early = refl; late = refl }
 
 -- and of a line's grounds, 8, 1 and 3 come before 7 and 6
 pub line-first : (x y z u v : Option ℕ) → InTurn (ground 8 x ∷ ground 1 y ∷ ground 3 z ∷ []) (ground 7 u ∷ ground 6 v ∷ [])
-line-first x y z u v = record { place = 5; early = refl; late = refl }
+line-first x y z u v = record { place = afterState; early = refl; late = refl }
 
 -- of a row's, 1 and 9 before 7
 pub row-first : (x y z : Option ℕ) → InTurn (ground 1 x ∷ ground 9 y ∷ []) (ground 7 z ∷ [])
-row-first x y z = record { place = 5; early = refl; late = refl }
+row-first x y z = record { place = afterState; early = refl; late = refl }
 
 pub size-first : (x y z : Option ℕ) → InTurn (ground 8 x ∷ []) (ground 1 y ∷ ground 3 z ∷ [])
-size-first x y z = record { place = 1; early = refl; late = refl }
+size-first x y z = record { place = afterFile; early = refl; late = refl }
 
 pub table-first : (x y z : Option ℕ) → InTurn (ground 1 x ∷ []) (ground 9 y ∷ ground 2 z ∷ [])
-table-first x y z = record { place = 2; early = refl; late = refl }
+table-first x y z = record { place = afterTable; early = refl; late = refl }
 
 pub tasks-then-admission : (x y : Option ℕ) → InTurn (ground 9 x ∷ []) (ground 2 y ∷ [])
-tasks-then-admission x y = record { place = 3; early = refl; late = refl }
+tasks-then-admission x y = record { place = afterTasks; early = refl; late = refl }
 
 -- the numbers that come after 1 and 3
 pub data Late : ℕ → Type 0 where
@@ -245,10 +258,10 @@ pub data Late : ℕ → Type 0 where
   seven : Late 7
 
 pub late-last : (x y z : Option ℕ) {k : ℕ} → Late k → InTurn (ground 1 x ∷ ground 3 y ∷ []) (ground k z ∷ [])
-late-last x y z four = record { place = 5; early = refl; late = refl }
-late-last x y z five = record { place = 5; early = refl; late = refl }
-late-last x y z six = record { place = 5; early = refl; late = refl }
-late-last x y z seven = record { place = 5; early = refl; late = refl }
+late-last x y z four = record { place = afterState; early = refl; late = refl }
+late-last x y z five = record { place = afterState; early = refl; late = refl }
+late-last x y z six = record { place = afterState; early = refl; late = refl }
+late-last x y z seven = record { place = afterState; early = refl; late = refl }
 
 -- a ground that doesn't apply, and comes last, changes nothing
 pub nothing-last : (gs : List Ground) (k : ℕ) → refusal (gs ++ ground k none ∷ []) ≡ refusal gs

@@ -57,14 +57,10 @@ within-high low high x p = leb-true x high (and-right (leb low x) _ p)
 pub is-within : {low high x : ℕ} → low ≤ x → x ≤ high → within low high x ≡ true
 is-within {low} {high} {x} p q = both (le-leb low x p) (le-leb x high q)
 
--- an answer is there, or is none
+-- an answer is there
 pub found-some : (a : Option ℕ) → found a ≡ true → (x : ℕ) × (a ≡ some x)
 found-some (some x) p = (x, refl)
 found-some none p = never p refl
-
-pub found-none : (a : Option ℕ) → found a ≡ false → a ≡ none
-found-none (some x) p = never refl p
-found-none none p = refl
 
 pub below-or-not : (i n : ℕ) → (i < n) ⊎ (n ≤ i)
 below-or-not i n = ⊎-elim (λ p. inl (ltb-true i n p)) (λ p. inr (ltb-false i n p)) (true-or-false (ltb i n))

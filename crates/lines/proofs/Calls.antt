@@ -1,21 +1,23 @@
 -- From the fields to what the calls promise.
 use Prim.Native.Nat.{ℕ, _≤_, _<_}
-use mathlib.Core.Path.{_≡_, sym, _∙_, ap, ap₂}
+use mathlib.Core.Path.{_≡_, refl, sym, _∙_, ap, ap₂}
 use mathlib.Core.Bool.{Bool, true, false}
 use mathlib.Core.List.{List, [], _∷_}
-use mathlib.Core.Option.{Option, none}
+use mathlib.Core.Option.{Option, some, none}
 use native.Mathlib.Nat.{zero-add, le-trans}
 use borrow.Author.Tests.{le-leb, lt-leb}
 use lib.Dec.{leb}
 use lib.ListN.{length}
-use Rattle.basis.specs.Words.{unless}
-use Rattle.rules.specs.Refusals.{Refused, shortBuffer, refusal, unlessBefore}
+use Rattle.basis.specs.Words.{unless, onto}
+use Rattle.rules.specs.Refusals.{Refused, refusedAs, shortBuffer, refusal, unlessBefore}
+use Rattle.rules.specs.declared.Refusal.{Refusal}
 use Rattle.rules.specs.declared.Refusal.the-variants.{ShortBuffer}
 use Rattle.laws.proofs.Refusals.{seven, late-alone}
-use Rattle.ranges.specs.Outcome.{gives}
+use Rattle.verdicts.specs.Outcome.{gives}
+use Rattle.verdicts.proofs.Outcomes.{refused-as, given-as, never-both}
 use Rattle.lines.specs.Lines.{bytesOf, longestLine, writtenAs}
 use Rattle.lines.specs.Fields.{lineOf, Put}
-use Rattle.lines.specs.Promises.{LineLengthIs, Writing, wroteAs, onto, writing, WriteLineIs}
+use Rattle.lines.specs.Promises.{LineLengthIs, Writing, wroteAs, writing, WriteLineIs}
 use Rattle.lines.specs.declared.Fields.{Fields}
 use Rattle.lines.specs.declared.Line.{Line}
 use Rattle.lines.specs.declared.Written.{Written}
@@ -57,6 +59,27 @@ module _ (l : Line) (f : Fields) (same : lineOf f ≡ bytesOf l) (needed : ℕ) 
           (put .next ∙ zero-add (length (lineOf f)) ∙ ap length same)
           (put .buffer ∙ sets-onto (lineOf f) buffer write-room ∙ ap (λ (bytes : List ℕ). onto bytes buffer) same)
           ∙ sym (has-room (bytesOf l) buffer (rw (sym length-is) room))
+
+-- ---- what the answer of `write_line` says to its caller
+module _ (l : Line) (buffer : List ℕ) (w : Written) (last : List ℕ) (e : WriteLineIs l buffer w last) where
+  abbrev short : Option Refused
+  short = refusal (shortBuffer (length (bytesOf l)) (length buffer) ∷ [])
+
+  pub was-written : (n : ℕ) → w ≡ written.Bytes n → (short ≡ none) × (n ≡ length (bytesOf l)) × (last ≡ onto (bytesOf l) buffer)
+  unfolding writing
+  was-written n d = go short refl e
+    where
+      go : (o : Option Refused) → short ≡ o → wroteAs w last ≡ writing o (bytesOf l) buffer → (short ≡ none) × (n ≡ length (bytesOf l)) × (last ≡ onto (bytesOf l) buffer)
+      go none f h = (f, given-as (sym (ap writtenAs d) ∙ ap (λ (x : Writing). x .says) h), ap (λ (x : Writing). x .buffer) h)
+      go (some r) f h = never-both (sym (ap writtenAs d) ∙ ap (λ (x : Writing). x .says) h)
+
+  pub was-short : (q : Refusal) → w ≡ written.Refused q → (short ≡ some (refusedAs q)) × (last ≡ buffer)
+  unfolding writing
+  was-short q d = go short refl e
+    where
+      go : (o : Option Refused) → short ≡ o → wroteAs w last ≡ writing o (bytesOf l) buffer → (short ≡ some (refusedAs q)) × (last ≡ buffer)
+      go none f h = never-both (sym (ap (λ (x : Writing). x .says) h) ∙ ap writtenAs d)
+      go (some r) f h = (f ∙ ap some (sym (refused-as (sym (ap writtenAs d) ∙ ap (λ (x : Writing). x .says) h))), ap (λ (x : Writing). x .buffer) h)
 
 -- ---- a buffer of 64 bytes is never too short
 is-given : (r : Written) (n : ℕ) → writtenAs r ≡ gives n → r ≡ written.Bytes n

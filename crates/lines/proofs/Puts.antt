@@ -8,7 +8,7 @@ use native.Mathlib.Omega.{arith}
 use lib.ListN.{length, set, getD, take, drop, length-append}
 use lib.Seq.{sets, length-sets, sets-eq, set-comm, take-suc, take-all, length-take-le}
 use Rattle.lines.specs.Fields.{Put}
-use Rattle.lines.specs.Promises.{onto}
+use Rattle.basis.specs.Words.{onto}
 
 -- ---- runs of stores
 -- a store before them may be made first

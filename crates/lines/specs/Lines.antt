@@ -3,7 +3,7 @@ use Prim.Native.Nat.{ℕ}
 use mathlib.Core.List.{List}
 use Rattle.rules.specs.Refusals.{refusedAs}
 use Rattle.file_rules.specs.Printers.{scheduleHeader, responseHeader, tickLine, releaseLine, responseLine, endLine, refusedLine}
-use Rattle.ranges.specs.Outcome.{Outcome, refused, gives}
+use Rattle.verdicts.specs.Outcome.{Outcome, refused, gives}
 use Rattle.lines.specs.declared.Line.{Line}
 use Rattle.lines.specs.declared.Line.the-variants as line
 use Rattle.lines.specs.declared.Written.{Written}

@@ -1,11 +1,12 @@
 -- What each public function of this crate promises of its answer r and the lent buffer.
 use Prim.Native.Nat.{ℕ}
 use mathlib.Core.Path.{_≡_}
-use mathlib.Core.List.{List, [], _∷_, _++_}
+use mathlib.Core.List.{List, [], _∷_}
 use mathlib.Core.Option.{Option, some, none}
-use lib.ListN.{length, drop}
+use lib.ListN.{length}
+use Rattle.basis.specs.Words.{onto}
 use Rattle.rules.specs.Refusals.{Refused, shortBuffer, refusal}
-use Rattle.ranges.specs.Outcome.{Outcome, refused, gives}
+use Rattle.verdicts.specs.Outcome.{Outcome, refused, gives}
 use Rattle.lines.specs.Lines.{bytesOf, writtenAs}
 use Rattle.lines.specs.declared.Line.{Line}
 use Rattle.lines.specs.declared.Written.{Written}
@@ -21,10 +22,6 @@ pub record Writing : Type 0 where
 
 abbrev pub wroteAs : Written → List ℕ → Writing
 wroteAs r buffer = record { says = writtenAs r; buffer = buffer }
-
--- bytes at the start of a buffer, the rest as it was
-abbrev pub onto : List ℕ → List ℕ → List ℕ
-onto bytes buffer = bytes ++ drop (length bytes) buffer
 
 -- "Nothing is written to lent memory on a refusal"
 unfoldable pub writing : Option Refused → List ℕ → List ℕ → Writing

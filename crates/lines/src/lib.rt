@@ -8,8 +8,8 @@ ghost use Rattle.file_rules.specs.Printers.{decimal, pickText, responseText};
 ghost use Rattle.lines.specs.Lines.{bytesOf};
 ghost use Rattle.lines.specs.Fields.{firstText, laterText, lineOf, Put};
 ghost use Rattle.lines.specs.Promises.{LineLengthIs, WriteLineIs};
-use ranges::numbers;
 use rules::Refusal;
+use verdicts::numbers;
 
 // A line of a printer: what its fields are.
 pub enum Line {

@@ -16,8 +16,8 @@ use Rattle.rules.specs.declared.Refusal.{Refusal}
 use Rattle.laws.proofs.Tests.{none-is-some}
 use Rattle.laws.proofs.Refusals.{no-ground, file-alone}
 use Rattle.file_laws.proofs.MeterFile.{cut-head, not-held, no-kind, other-length, cut-payload, order-decides, over-limit, no-record, a-record, payload-refused, payload-is, next-further, not-malformed, Whole, record-whole}
-use Rattle.ranges.specs.Outcome.{Outcome, gives, unlessRefused}
-use Rattle.ranges.proofs.Outcomes.{was-refused, was-given}
+use Rattle.verdicts.specs.Outcome.{Outcome, gives, unlessRefused}
+use Rattle.verdicts.proofs.Outcomes.{was-refused, was-given}
 use Rattle.meter.specs.Forms.{shapeAs, Found, readAs}
 use Rattle.meter.specs.Promises.{ReadRecordIs, PayloadIs}
 use Rattle.meter.specs.declared.Shape.{Shape}

@@ -2,7 +2,7 @@
 use Prim.Native.Nat.{ℕ}
 use Rattle.rules.specs.Refusals.{Refused, refusedAs}
 use Rattle.file_rules.specs.MeterFile as file
-use Rattle.ranges.specs.Outcome.{Outcome, refused, gives}
+use Rattle.verdicts.specs.Outcome.{Outcome, refused, gives}
 use Rattle.meter.specs.declared.Shape.{Shape}
 use Rattle.meter.specs.declared.Read.{Read}
 use Rattle.meter.specs.declared.Read.the-variants as read

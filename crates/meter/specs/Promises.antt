@@ -5,7 +5,7 @@ use mathlib.Core.List.{List, [], _∷_}
 use Rattle.rules.specs.Refusals.{refusedAs, malformed, refusal}
 use Rattle.file_rules.specs.MeterFile.{kindAt, nextAt, malformedAt, payload}
 use Rattle.rules.specs.declared.Refusal.{Refusal}
-use Rattle.ranges.specs.Outcome.{unlessRefused}
+use Rattle.verdicts.specs.Outcome.{unlessRefused}
 use Rattle.meter.specs.Forms.{readAs, whyNot}
 use Rattle.meter.specs.declared.Read.{Read}
 

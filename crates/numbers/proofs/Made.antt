@@ -4,15 +4,15 @@ use mathlib.Core.Path.{_≡_, sym, _∙_, ap}
 use mathlib.Core.Option.{some, none}
 use Rattle.rules.specs.Refusals.{Refused, refusedAs}
 use Rattle.rules.specs.declared.Refusal.{Refusal}
-use Rattle.ranges.specs.Verdicts.{verdictAs}
-use Rattle.ranges.specs.declared.Verdict.{Verdict}
-use Rattle.ranges.specs.declared.Verdict.the-variants as verdict
-use Rattle.ranges.proofs.Verdicts.{verdict-refused, verdict-good}
+use Rattle.verdicts.specs.Verdicts.{verdictAs}
+use Rattle.verdicts.specs.declared.Verdict.{Verdict}
+use Rattle.verdicts.specs.declared.Verdict.the-variants as verdict
+use Rattle.verdicts.proofs.Verdicts.{verdict-refused, verdict-good}
 use Rattle.standing.specs.Answers.{testAs, lengthAs}
 use Rattle.standing.specs.declared.Test.{Test}
 use Rattle.standing.specs.declared.Test.the-variants as test
 use Rattle.standing.specs.declared.Length.{Length}
-use Rattle.standing.specs.declared.Length.the-variants as length
+use Rattle.standing.specs.declared.Length.the-variants as lasting
 use Rattle.candidates.specs.Promises.{listedAs}
 use Rattle.candidates.specs.declared.Listed.{Listed}
 use Rattle.draw.specs.Promises.{weighedAs, decisionAs}
@@ -59,13 +59,13 @@ module _ {n : RefusalNumbers} where
     test-refused d e = rw (d, e)
 
   module _ {l : Length} where
-    pub within-is : {W : ℕ} → l ≡ length.Within W → n ≡ refusalNumbers none → record { refusal = n; within = 1; ticks = W } ≡ lengthNumbers (lengthAs l)
+    pub within-is : {W : ℕ} → l ≡ lasting.Within W → n ≡ refusalNumbers none → record { refusal = n; within = 1; ticks = W } ≡ lengthNumbers (lengthAs l)
     within-is d e = rw (d, e)
 
-    pub over-is : l ≡ length.Over → n ≡ refusalNumbers none → record { refusal = n; within = 0; ticks = 0 } ≡ lengthNumbers (lengthAs l)
+    pub over-is : l ≡ lasting.Over → n ≡ refusalNumbers none → record { refusal = n; within = 0; ticks = 0 } ≡ lengthNumbers (lengthAs l)
     over-is d e = rw (d, e)
 
-    pub length-refused : {why : Refusal} → l ≡ length.Refused why → n ≡ refusalNumbers (some (refusedAs why)) → record { refusal = n; within = 0; ticks = 0 } ≡ lengthNumbers (lengthAs l)
+    pub length-refused : {why : Refusal} → l ≡ lasting.Refused why → n ≡ refusalNumbers (some (refusedAs why)) → record { refusal = n; within = 0; ticks = 0 } ≡ lengthNumbers (lengthAs l)
     length-refused d e = rw (d, e)
 
   module _ {s : Response} where

@@ -1,13 +1,12 @@
 -- How what a call says is written in numbers: a refusal's two numbers, and then its values, which are 0 where it is refused, while a state is then the one that was given.
 use Prim.Native.Nat.{ℕ}
 use mathlib.Core.Option.{Option, some, none}
-use Rattle.rules.specs.Numbers.{Pairs}
+use Rattle.scheduler.specs.States.{stateOf}
 use Rattle.rules.specs.Refusals.{Refused}
-use Rattle.ranges.specs.Outcome.{Outcome, refused, gives}
+use Rattle.verdicts.specs.Outcome.{Outcome, refused, gives}
 use Rattle.candidates.specs.Promises.{Listing}
 use Rattle.draw.specs.Promises.{Weighing}
 use Rattle.scheduler.specs.Promises.{Change}
-use Rattle.scheduler.specs.declared.State.{State}
 use Rattle.runs.specs.Promises.{Step}
 use Rattle.numbers.specs.declared.RefusalNumbers.{RefusalNumbers}
 use Rattle.numbers.specs.declared.Picked.{Picked}
@@ -45,10 +44,6 @@ responseNumbers (refused r) = record { refusal = refusalNumbers (some r); ticks 
 abbrev pub pickNumbers : Outcome ℕ → Picked
 pickNumbers (gives pick) = record { refusal = refusalNumbers none; pick = pick }
 pickNumbers (refused r) = record { refusal = refusalNumbers (some r); pick = 0 }
-
--- a state of these pairs
-abbrev pub stateOf : Pairs → State
-stateOf p = record { b = p .b; o = p .o }
 
 -- a state after a call: where it is refused, the state that was given
 abbrev pub changeNumbers : Change → After

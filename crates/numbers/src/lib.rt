@@ -2,14 +2,12 @@
 ghost use mathlib.Core.Path.{_≡_};
 ghost use mathlib.Core.Option.{some, none};
 ghost use Rattle.rules.specs.Refusals.{refusedAs};
-ghost use Rattle.ranges.specs.Verdicts.{verdictAs};
+ghost use Rattle.verdicts.specs.Verdicts.{verdictAs};
 ghost use Rattle.numbers.specs.Answers.{refusalNumbers};
 ghost use Rattle.numbers.specs.Promises.{TestNumbersAre, LengthNumbersAre, ResponseNumbersAre, PickNumbersAre, ChangeNumbersAre, ListNumbersAre, WeightNumbersAre, TurnIs, TurnForIs, ReleasedIs};
 use candidates::Listed;
 use draw::Decision;
 use draw::Weighed;
-use ranges::Verdict;
-use ranges::numbers;
 use responses::Response;
 use rules::Refusal;
 use rules::Table;
@@ -18,6 +16,8 @@ use scheduler::Changed;
 use scheduler::State;
 use standing::Length;
 use standing::Test;
+use verdicts::Verdict;
+use verdicts::numbers;
 
 // A refusal's number and its second number; 0, 0 where the call was not refused.
 #[repr(C)]

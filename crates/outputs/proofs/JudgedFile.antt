@@ -13,9 +13,9 @@ use Rattle.file_rules.specs.Printers.{refusedLine, unlessRefusedFile}
 use Rattle.rules.specs.declared.Refusal.{Refusal}
 use Rattle.laws.proofs.Tests.{none-is-some}
 use Rattle.laws.proofs.Refusals.{no-ground}
-use Rattle.ranges.specs.Verdicts.{verdictAs}
-use Rattle.ranges.specs.declared.Verdict.the-variants as verdict
-use Rattle.ranges.proofs.Verdicts.{verdict-refused, verdict-good}
+use Rattle.verdicts.specs.Verdicts.{verdictAs}
+use Rattle.verdicts.specs.declared.Verdict.the-variants as verdict
+use Rattle.verdicts.proofs.Verdicts.{verdict-refused, verdict-good}
 use Rattle.whole_file.specs.Promises.{Judged, judgedAs, judging, JudgeFileIs}
 use Rattle.whole_file.specs.declared.MeterFile.{MeterFile}
 

@@ -9,12 +9,11 @@ use borrow.Author.Tests.{le-leb}
 use lib.Dec.{leb}
 use lib.ListN.{length, take, drop}
 use lib.Seq.{take-append-seam}
-use Rattle.basis.specs.Words.{unless}
+use Rattle.basis.specs.Words.{unless, onto}
 use Rattle.rules.specs.Refusals.{refusedAs}
 use Rattle.file_rules.specs.Printers.{refusedLine}
 use Rattle.rules.specs.declared.Refusal.{Refusal}
 use Rattle.lines.specs.Lines.{bytesOf, longestLine}
-use Rattle.lines.specs.Promises.{onto}
 use Rattle.lines.specs.declared.Line.the-variants as line
 use Rattle.lines.specs.declared.Written.the-variants as written
 use Rattle.lines.proofs.Calls.{always-written}

@@ -10,7 +10,7 @@ use native.Mathlib.Omega.{arith}
 use borrow.Author.Tests.{eqb-true, eqb-false, lt-ltb}
 use lib.Dec.{eqb}
 use lib.ListN.{length, take, length-append}
-use Rattle.basis.specs.Words.{_!_}
+use Rattle.basis.specs.Words.{_!_, onto}
 use Rattle.rules.specs.TaskResponse.{rankOf, responseOfTask}
 use Rattle.rules.specs.Refusals.{Refused, ground, refusal}
 use Rattle.file_rules.specs.MeterFile.{tableOf, tasksOf}
@@ -18,13 +18,12 @@ use Rattle.file_rules.specs.Printers.{responseHeader, endLine, rowOf, rowsOf, r
 use Rattle.rules.specs.declared.Table.{Table}
 use Rattle.rules.specs.declared.Tasks.{Tasks}
 use Rattle.laws.proofs.Numbers.{tasks-good}
-use Rattle.ranges.specs.Outcome.{gives}
-use Rattle.ranges.specs.declared.Verdict.the-variants as verdict
-use Rattle.ranges.proofs.Outcomes.{given-as, never-both}
+use Rattle.verdicts.specs.Outcome.{gives}
+use Rattle.verdicts.specs.declared.Verdict.the-variants as verdict
+use Rattle.verdicts.proofs.Outcomes.{given-as, never-both}
 use Rattle.whole_file.specs.Promises.{Judged, JudgeFileIs}
 use Rattle.whole_file.specs.declared.MeterFile.{MeterFile}
 use Rattle.lines.specs.Lines.{bytesOf, longestLine}
-use Rattle.lines.specs.Promises.{onto}
 use Rattle.lines.specs.declared.Line.the-variants as line
 use Rattle.lines.proofs.Longest.{no-longer}
 use Rattle.response_lines.specs.Coming.{Coming, plain, row, coming}

@@ -10,7 +10,8 @@ use native.Mathlib.Omega.{arith}
 use borrow.Author.Tests.{le-leb, eqb-true, eqb-false, ne-eqb}
 use lib.Dec.{leb, eqb}
 use lib.ListN.{length, take, length-append}
-use Rattle.basis.specs.Words.{unless}
+use Rattle.rules.specs.Records.{tableBad, unadmitted}
+use Rattle.basis.specs.Words.{unless, onto}
 use Rattle.rules.specs.Numbers.{Pairs, TableInRange, StateInRange}
 use Rattle.rules.specs.Refusals.{Refused, ground, unlessBefore, badTable, notAdmitted, refusal}
 use Rattle.file_rules.specs.MeterFile.{mostBytes, kindAt, nextAt, meterKinds, form, isRecord, Record, Reading, andThen, readFrom, reading, isEvent, eventsOf, beginning, tableOf, eventsIn, overLimit, malformedAt}
@@ -22,9 +23,9 @@ use Rattle.laws.proofs.Tests.{some-is-none, below-or-not}
 use Rattle.file_laws.proofs.MeterFile.{a-record, next-further, Whole, record-whole, Kind, partition, task, word, release, known-kind}
 use Rattle.file_laws.proofs.Records.{reading-small, reading-large, read-on, read-stops, read-ends, before-same, rounds-same, EventsFrom, events-from}
 use Rattle.laws.proofs.Keeps.{fresh-in-range, release-in-range, tick-in-range}
-use Rattle.ranges.specs.Outcome.{refused, gives}
-use Rattle.ranges.specs.declared.Verdict.the-variants as verdict
-use Rattle.ranges.proofs.Outcomes.{refused-as, given-as, never-both}
+use Rattle.verdicts.specs.Outcome.{refused, gives}
+use Rattle.verdicts.specs.declared.Verdict.the-variants as verdict
+use Rattle.verdicts.proofs.Outcomes.{refused-as, given-as, never-both}
 use Rattle.scheduler.specs.States.{pairs}
 use Rattle.scheduler.specs.Promises.{Change, change, FreshIs}
 use Rattle.scheduler.specs.declared.State.{State}
@@ -32,7 +33,6 @@ use Rattle.scheduler.specs.declared.Changed.{Changed}
 use Rattle.whole_file.specs.Promises.{Judged, JudgeFileIs}
 use Rattle.whole_file.specs.declared.MeterFile.{MeterFile}
 use Rattle.lines.specs.Lines.{bytesOf, longestLine}
-use Rattle.lines.specs.Promises.{onto}
 use Rattle.lines.specs.declared.Line.the-variants as line
 use Rattle.lines.proofs.Longest.{no-longer}
 use Rattle.schedule_lines.specs.Coming.{Coming, countedOn, ticksOn, plain, eventComing, coming}
@@ -376,7 +376,7 @@ module _ (file : List ℕ) (m : MeterFile) (judged : JudgeFileIs file m) (good :
     begins =
         ap (λ (x : Change). x .after)
         (fresh
-        ∙ ap (λ (t : Table). change (refusal (badTable (t .count) (t .period) (t .budget) (t .phase) ∷ notAdmitted (t .count) (t .period) (t .budget) ∷ [])) (pairs old) (freshOf t)) (table-is file m judged good)
+        ∙ ap (λ (t : Table). change (refusal (tableBad t ∷ unadmitted t ∷ [])) (pairs old) (freshOf t)) (table-is file m judged good)
         ∙ ap (λ (o : Option Refused). change o (pairs old) (freshOf (tableOf file))) none-against)
       where
         none-against : refusal (badTable (tableOf file .count) (tableOf file .period) (tableOf file .budget) (tableOf file .phase) ∷ notAdmitted (tableOf file .count) (tableOf file .period) (tableOf file .budget) ∷ []) ≡ none

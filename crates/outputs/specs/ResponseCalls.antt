@@ -6,7 +6,7 @@ use lib.ListN.{length, take}
 use Rattle.rules.specs.declared.Refusal.{Refusal}
 use Rattle.rules.specs.declared.Table.{Table}
 use Rattle.rules.specs.declared.Tasks.{Tasks}
-use Rattle.ranges.specs.declared.Verdict.the-variants as verdict
+use Rattle.verdicts.specs.declared.Verdict.the-variants as verdict
 use Rattle.whole_file.specs.Promises.{JudgeFileIs}
 use Rattle.whole_file.specs.declared.MeterFile.{MeterFile}
 use Rattle.lines.specs.Lines.{longestLine}

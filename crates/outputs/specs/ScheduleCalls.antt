@@ -5,7 +5,7 @@ use mathlib.Core.List.{List, _++_}
 use lib.ListN.{length, take}
 use Rattle.rules.specs.declared.Refusal.{Refusal}
 use Rattle.rules.specs.declared.Table.{Table}
-use Rattle.ranges.specs.declared.Verdict.the-variants as verdict
+use Rattle.verdicts.specs.declared.Verdict.the-variants as verdict
 use Rattle.scheduler.specs.Promises.{FreshIs}
 use Rattle.scheduler.specs.declared.State.{State}
 use Rattle.scheduler.specs.declared.Changed.{Changed}

@@ -1,8 +1,4 @@
--- from what is found to a verdict, and on from a verdict
-pub mod Verdicts
 -- what the tests of this crate's functions amount to
 pub mod Steps
--- the pairs inside the table, and those beyond it
-pub mod Parts
--- from a verdict to what a call says
-pub mod Outcomes
+-- what a good verdict says of a table
+pub mod Good

@@ -4,17 +4,18 @@ use mathlib.Core.Path.{_≡_, refl, sym, _∙_, ap}
 use mathlib.Core.Bool.{Bool, true, false, not, _&&_}
 use mathlib.Core.List.{List}
 use mathlib.Core.Option.{some, none}
-use native.Mathlib.Omega.{arith}
 use borrow.Author.Tests.{le-leb, lt-leb, lt-ltb, le-ltb, eq-eqb, ne-eqb, not-true, not-false}
-use lib.Dec.{leb, eqb}
+use lib.Dec.{leb}
 use Rattle.basis.specs.Words.{_!_, within, first}
 use Rattle.rules.specs.Numbers.{partitionInRange, firstBadPartition}
+use Rattle.rules.specs.declared.Refusal.{Refusal}
 use Rattle.rules.specs.declared.Refusal.the-variants.{BadPartition}
-use Rattle.ranges.specs.Promises.{JudgeTableIs}
-use Rattle.ranges.specs.declared.Verdict.the-variants as verdict
+use Rattle.ranges.specs.Promises.{JudgeTableIs, JudgeIndexIs}
+use Rattle.verdicts.specs.declared.Verdict.{Verdict}
+use Rattle.verdicts.specs.declared.Verdict.the-variants as verdict
 use Rattle.laws.proofs.Tests.{off-left}
 use Rattle.laws.proofs.Refusals.{table-alone}
-use Rattle.ranges.proofs.Verdicts.{says-bad, says-good}
+use Rattle.verdicts.proofs.Verdicts.{says-bad, says-good, judged-fields, judged-absent, judged-there}
 
 pub too-low : (low high x : ℕ) → x < low → false ≡ within low high x
 too-low low high x l = sym (rw (lt-leb low x l))
@@ -35,13 +36,6 @@ fails-at p q off = sym (off-left q off)
 
 pub last-decides : (p q r : Bool) → p ≡ true → r ≡ q → r ≡ (p && q)
 last-decides p q r on e = e ∙ ap (λ (a : Bool). a && q) (sym on)
-
--- a pair that isn't 0, 0, and one that is if its o is
-pub some-left : (b o : ℕ) → 0 < b → false ≡ (eqb b 0 && eqb o 0)
-some-left b o more = sym (off-left (eqb o 0) (ne-eqb b 0 (λ e. omega arith)))
-
-pub nothing-left : (b o : ℕ) → b ≤ 0 → eqb o 0 ≡ (eqb b 0 && eqb o 0)
-nothing-left b o less = sym (rw (eq-eqb b 0 (omega arith)))
 
 -- ---- judging a table, entry by entry
 module _ (n : ℕ) (T B phase : List ℕ) where
@@ -68,3 +62,14 @@ module _ (n : ℕ) (T B phase : List ℕ) where
 
       pub good-table : first n (λ j. not (partition j)) ≡ none → JudgeTableIs n T B phase verdict.Good
       good-table e = says-good 1 table-alone _ (by-fields ∙ e)
+
+-- ---- a partition that isn't there
+module _ (n : ℕ) (T B phase : List ℕ) (h : ℕ) (v : Verdict) (e : JudgeTableIs n T B phase v) where
+  pub table-refused : (r : Refusal) → v ≡ verdict.Refused r → JudgeIndexIs n T B phase h (verdict.Refused r)
+  table-refused = judged-fields 1 table-alone n h (firstBadPartition n T B phase) v e
+
+  pub partition-absent : v ≡ verdict.Good → n ≤ h → JudgeIndexIs n T B phase h (verdict.Refused (BadPartition h))
+  partition-absent d = judged-absent 1 table-alone n h (firstBadPartition n T B phase) v e d (BadPartition h) refl
+
+  pub partition-there : v ≡ verdict.Good → h < n → JudgeIndexIs n T B phase h verdict.Good
+  partition-there = judged-there 1 table-alone n h (firstBadPartition n T B phase) v e

@@ -7,7 +7,7 @@ use lib.ListN.{length, drop, length-append}
 use Rattle.rules.specs.Refusals.{refusedAs}
 use Rattle.file_rules.specs.Printers.{refusedLine}
 use Rattle.rules.specs.declared.Refusal.{Refusal}
-use Rattle.ranges.proofs.Outcomes.{never-both}
+use Rattle.verdicts.proofs.Outcomes.{never-both}
 use Rattle.lines.specs.Lines.{bytesOf, writtenAs}
 use Rattle.lines.specs.Promises.{WriteLineIs}
 use Rattle.lines.specs.declared.Line.the-variants as line

@@ -5,11 +5,12 @@ use mathlib.Core.List.{List, [], _∷_}
 use mathlib.Core.Option.{Option, some, none}
 use native.Mathlib.Omega.{arith}
 use borrow.Author.Tests.{eq-eqb, ne-eqb}
+use Rattle.rules.specs.Records.{tableBad}
+use Rattle.rules.specs.Release.{release}
+use Rattle.scheduler.specs.States.{stateBad, pairs, decisionOf, tickOf}
 use Rattle.rules.specs.Refusals.{Refused, refusedAs, Ground, malformed, refusal}
 use Rattle.file_rules.specs.MeterFile.{two, four, lengthAt, kindAt, payloadAt, nextAt, meterKinds, form, malformedAt}
 use Rattle.rules.specs.Pick.{decision}
-use Rattle.rules.specs.Tick.{tick}
-use Rattle.rules.specs.Release.{release}
 use Rattle.file_rules.specs.Events as rule
 use Rattle.rules.specs.declared.Refusal.{Refusal}
 use Rattle.rules.specs.declared.Table.{Table}
@@ -17,14 +18,13 @@ use Rattle.laws.proofs.Tests.{none-is-some}
 use Rattle.laws.proofs.Refusals.{nothing-last, record-first, refused-first, refused-then, file-alone}
 use Rattle.file_laws.proofs.MeterFile.{payload-is, Whole, record-whole, form-long}
 use Rattle.file_laws.proofs.Records.{field-at, four-at}
-use Rattle.ranges.specs.Outcome.{refused, gives}
-use Rattle.ranges.specs.declared.Verdict.the-variants as verdict
-use Rattle.ranges.proofs.Verdicts.{verdict-refused, verdict-good}
-use Rattle.ranges.proofs.Outcomes.{refused-as, given-as, never-both}
+use Rattle.verdicts.specs.Outcome.{refused, gives}
+use Rattle.verdicts.specs.declared.Verdict.the-variants as verdict
+use Rattle.verdicts.proofs.Verdicts.{verdict-refused, verdict-good}
+use Rattle.verdicts.proofs.Outcomes.{refused-as, given-as, never-both}
 use Rattle.draw.specs.Promises.{decisionAs}
 use Rattle.draw.specs.declared.Decision.the-variants as decided
-use Rattle.scheduler.specs.States.{pairs}
-use Rattle.scheduler.specs.Promises.{Change, changedAs, change, table, state, ReleaseIs}
+use Rattle.scheduler.specs.Promises.{Change, changedAs, change, ReleaseIs}
 use Rattle.scheduler.specs.declared.State.{State}
 use Rattle.scheduler.specs.declared.Changed.{Changed}
 use Rattle.meter.specs.Forms.{whyNot}
@@ -54,27 +54,27 @@ module _ (t : Table) (s : State) where
   -- ---- a word
   module _ (word at next : ℕ) (x : Stepped) (made : StepIs t s word x) where
     pick : ℕ
-    pick = decision (t .count) (t .period) (t .budget) (s .b) (s .o) word
+    pick = decisionOf t s word
 
-    same : refusal (againstEvent t s (rule.ticked pick)) ≡ refusal (table t s ∷ state t s ∷ [])
-    same = nothing-last (table t s ∷ state t s ∷ []) 6
+    same : refusal (againstEvent t s (rule.ticked pick)) ≡ refusal (tableBad t ∷ stateBad t s ∷ [])
+    same = nothing-last (tableBad t ∷ stateBad t s ∷ []) 6
 
-    pub word-done : (p : ℕ) → x .decision ≡ decided.Pick p → DoneIs t s at next (rule.ticked (decision (t .count) (t .period) (t .budget) (s .b) (s .o) word)) (record { state = x .state; event = event.Ticked p; next = next })
+    pub word-done : (p : ℕ) → x .decision ≡ decided.Pick p → DoneIs t s at next (rule.ticked (decisionOf t s word)) (record { state = x .state; event = event.Ticked p; next = next })
     unfolding pick stepped
-    word-done p d = go (refusal (table t s ∷ state t s ∷ [])) refl made
+    word-done p d = go (refusal (tableBad t ∷ stateBad t s ∷ [])) refl made
       where
-        go : (o : Option Refused) → refusal (table t s ∷ state t s ∷ []) ≡ o → steppedAs x ≡ stepped o (pairs s) (tick (t .count) (t .period) (t .budget) (s .b) (s .o) pick) pick
+        go : (o : Option Refused) → refusal (tableBad t ∷ stateBad t s ∷ []) ≡ o → steppedAs x ≡ stepped o (pairs s) (tickOf t s pick) pick
             → DoneIs t s at next (rule.ticked pick) (record { state = x .state; event = event.Ticked p; next = next })
         go none e h =
             (λ i. record { after = h i .after; says = gives (rule.ticked (given-as (sym (ap decisionAs d) ∙ ap (λ (z : Step). z .says) h) i)); next = next })
             ∙ done (againstEvent t s (rule.ticked pick)) at next (rule.ticked pick) (same ∙ e)
         go (some r) e h = never-both (sym (ap decisionAs d) ∙ ap (λ (z : Step). z .says) h)
 
-    pub word-refused : (q : Refusal) → x .decision ≡ decided.Refused q → DoneIs t s at next (rule.ticked (decision (t .count) (t .period) (t .budget) (s .b) (s .o) word)) (record { state = s; event = event.Refused q; next = at })
+    pub word-refused : (q : Refusal) → x .decision ≡ decided.Refused q → DoneIs t s at next (rule.ticked (decisionOf t s word)) (record { state = s; event = event.Refused q; next = at })
     unfolding pick stepped
-    word-refused q d = go (refusal (table t s ∷ state t s ∷ [])) refl made
+    word-refused q d = go (refusal (tableBad t ∷ stateBad t s ∷ [])) refl made
       where
-        go : (o : Option Refused) → refusal (table t s ∷ state t s ∷ []) ≡ o → steppedAs x ≡ stepped o (pairs s) (tick (t .count) (t .period) (t .budget) (s .b) (s .o) pick) pick
+        go : (o : Option Refused) → refusal (tableBad t ∷ stateBad t s ∷ []) ≡ o → steppedAs x ≡ stepped o (pairs s) (tickOf t s pick) pick
             → DoneIs t s at next (rule.ticked pick) (record { state = s; event = event.Refused q; next = at })
         go none e h = never-both (sym (ap (λ (z : Step). z .says) h) ∙ ap decisionAs d)
         go (some r) e h =
@@ -133,9 +133,9 @@ module _ (t : Table) (s : State) where
           sound = ap (λ (m : Option ℕ). refusal (malformed m ∷ [])) (told .sound) ∙ file-alone none
 
       pub word-replayed : kind ≡ 3 → (word : ℕ) → FourIs part 0 word → (r : Replayed)
-          → DoneIs t s at next (rule.ticked (decision (t .count) (t .period) (t .budget) (s .b) (s .o) word)) r → ReplayIs t s file at r
+          → DoneIs t s at next (rule.ticked (decisionOf t s word)) r → ReplayIs t s file at r
       unfolding rule.eventAt form
-      word-replayed k word w r f = says-so _ (ap (λ x. rule.ticked (decision (t .count) (t .period) (t .budget) (s .b) (s .o) x)) same ∙ sym (rw (eq-eqb (kindAt file at) 3 is))) r f
+      word-replayed k word w r f = says-so _ (ap (λ x. rule.ticked (decisionOf t s x)) same ∙ sym (rw (eq-eqb (kindAt file at) 3 is))) r f
         where
           is : kindAt file at ≡ 3
           is = sym (told .kind-is) ∙ k

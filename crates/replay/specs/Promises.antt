@@ -3,14 +3,14 @@ use Prim.Native.Nat.{ℕ}
 use mathlib.Core.Path.{_≡_}
 use mathlib.Core.List.{List, [], _∷_}
 use mathlib.Core.Option.{Option, some, none}
+use Rattle.rules.specs.Records.{tableBad}
+use Rattle.scheduler.specs.States.{stateBad, pairs}
 use Rattle.rules.specs.Numbers.{Pairs}
 use Rattle.rules.specs.Refusals.{Refused, refusedAs, Ground, ground, malformed, refusal}
 use Rattle.file_rules.specs.MeterFile.{kindAt, nextAt, meterKinds, malformedAt}
 use Rattle.file_rules.specs.Events as rule
 use Rattle.rules.specs.declared.Table.{Table}
-use Rattle.ranges.specs.Outcome.{Outcome, refused, gives}
-use Rattle.scheduler.specs.States.{pairs}
-use Rattle.scheduler.specs.Promises.{table, state}
+use Rattle.verdicts.specs.Outcome.{Outcome, refused, gives}
 use Rattle.scheduler.specs.declared.State.{State}
 use Rattle.replay.specs.declared.Event.{Event}
 use Rattle.replay.specs.declared.Event.the-variants as event
@@ -40,7 +40,7 @@ replaying (some r) t s at next e = record { after = s; says = refused r; next = 
 module _ (t : Table) (s : State) where
   -- the grounds of an event: refusals 1, 3 and 6
   abbrev pub againstEvent : rule.Event → List Ground
-  againstEvent e = table t s ∷ state t s ∷ ground 6 (rule.inactive t (pairs s) e) ∷ []
+  againstEvent e = tableBad t ∷ stateBad t s ∷ ground 6 (rule.inactive t (pairs s) e) ∷ []
 
   -- an event at an offset, done
   abbrev pub DoneIs : ℕ → ℕ → rule.Event → Replayed → Type 0

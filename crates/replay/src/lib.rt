@@ -9,11 +9,11 @@ use meter::Read;
 use meter::payload;
 use meter::read_record;
 use meter::why_refused;
-use ranges::Verdict;
 use rules::Refusal;
 use rules::Table;
 use runs::step;
 use scheduler::State;
+use verdicts::Verdict;
 
 // A tick for a pick, a release of an index, or why there was neither.
 pub enum Event {

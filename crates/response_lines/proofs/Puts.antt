@@ -4,54 +4,50 @@ use mathlib.Core.Path.{_≡_, refl, sym, _∙_, ap}
 use mathlib.Core.List.{List, [], _∷_}
 use mathlib.Core.Option.{Option, some, none}
 use lib.ListN.{length}
+use Rattle.rules.specs.Records.{tableBad}
 use Rattle.rules.specs.Refusals.{Refused, refusedAs, ground, shortBuffer, refusal}
 use Rattle.rules.specs.declared.Refusal.{Refusal}
 use Rattle.rules.specs.declared.Table.{Table}
 use Rattle.rules.specs.declared.Tasks.{Tasks}
 use Rattle.laws.proofs.Refusals.{row-first, refused-first, refused-then}
-use Rattle.ranges.specs.Outcome.{refused, gives}
-use Rattle.ranges.specs.declared.Verdict.{Verdict}
-use Rattle.ranges.specs.declared.Verdict.the-variants as verdict
-use Rattle.ranges.proofs.Verdicts.{verdict-refused, verdict-good}
-use Rattle.ranges.proofs.Outcomes.{refused-as, given-as, never-both}
-use Rattle.lines.specs.Lines.{bytesOf, writtenAs}
-use Rattle.lines.specs.Promises.{Writing, wroteAs, onto, writing, WriteLineIs}
+use Rattle.verdicts.specs.Outcome.{refused, gives}
+use Rattle.verdicts.specs.declared.Verdict.{Verdict}
+use Rattle.verdicts.specs.declared.Verdict.the-variants as verdict
+use Rattle.verdicts.proofs.Verdicts.{verdict-refused, verdict-good}
+use Rattle.lines.specs.Lines.{bytesOf}
+use Rattle.lines.specs.Promises.{WriteLineIs}
+use Rattle.lines.proofs.Calls.{was-written, was-short}
+use Rattle.basis.specs.Words.{onto}
 use Rattle.lines.specs.declared.Line.{Line}
 use Rattle.lines.specs.declared.Written.{Written}
 use Rattle.lines.specs.declared.Written.the-variants as written
 use Rattle.response_lines.specs.Coming.{Coming, plain}
-use Rattle.response_lines.specs.Promises.{printedAs, printing, table, OneLineIs, TasksJudgedIs, PlainIs, PutIs}
+use Rattle.response_lines.specs.Promises.{printedAs, printing, OneLineIs, TasksJudgedIs, PlainIs, PutIs}
 use Rattle.response_lines.specs.declared.Next.{Next}
 use Rattle.response_lines.specs.declared.Made.{Made}
 use Rattle.response_lines.specs.declared.Made.the-variants as made
 
 -- ---- a line, as it is written
 module _ (l : Line) (next : Next) (buffer : List ℕ) (w : Written) (last : List ℕ) (e : WriteLineIs l buffer w last) where
+  said : (o : Option Refused) → refusal (shortBuffer (length (bytesOf l)) (length buffer) ∷ []) ≡ o → (r : Made)
+      → printedAs r last ≡ printing o (record { fault = none; line = bytesOf l; next = next }) buffer → PutIs l next buffer r last
+  said o f r h = h ∙ ap (λ (x : Option Refused). printing x (record { fault = none; line = bytesOf l; next = next }) buffer) (sym f)
+
   pub put-made : (n : ℕ) → w ≡ written.Bytes n → PutIs l next buffer (made.Line n next) last
-  unfolding printing writing
-  put-made n d = go (refusal (shortBuffer (length (bytesOf l)) (length buffer) ∷ [])) e
-    where
-      go : (o : Option Refused) → wroteAs w last ≡ writing o (bytesOf l) buffer
-          → printedAs (made.Line n next) last ≡ printing o (record { fault = none; line = bytesOf l; next = next }) buffer
-      go none h = λ i. record { says = gives (record { length = given-as (sym (ap writtenAs d) ∙ ap (λ (x : Writing). x .says) h) i; next = next }); buffer = h i .buffer }
-      go (some r) h = never-both (sym (ap writtenAs d) ∙ ap (λ (x : Writing). x .says) h)
+  unfolding printing
+  put-made n d = let f = was-written l buffer w last e n d in said none (f .0) (made.Line n next) (λ i. record { says = gives (record { length = f .1 i; next = next }); buffer = f .2 i })
 
   pub put-refused : (q : Refusal) → w ≡ written.Refused q → PutIs l next buffer (made.Refused q) last
-  unfolding printing writing
-  put-refused q d = go (refusal (shortBuffer (length (bytesOf l)) (length buffer) ∷ [])) e
-    where
-      go : (o : Option Refused) → wroteAs w last ≡ writing o (bytesOf l) buffer
-          → printedAs (made.Refused q) last ≡ printing o (record { fault = none; line = bytesOf l; next = next }) buffer
-      go none h = never-both (sym (ap (λ (x : Writing). x .says) h) ∙ ap writtenAs d)
-      go (some r) h = λ i. record { says = refused (refused-as (sym (ap writtenAs d) ∙ ap (λ (x : Writing). x .says) h) i); buffer = h i .buffer }
+  unfolding printing
+  put-refused q d = let f = was-short l buffer w last e q d in said (some (refusedAs q)) (f .0) (made.Refused q) (λ i. record { says = refused (refusedAs q); buffer = f .1 i })
 
 -- ---- 1 and 9 before 7
 module _ (t : Table) (k : Tasks) (c : Coming) (buffer : List ℕ) where
-  pub line-refused : (q : Refusal) → refusal (table t ∷ ground 9 (c .fault) ∷ []) ≡ some (refusedAs q) → OneLineIs t k c buffer (made.Refused q) buffer
+  pub line-refused : (q : Refusal) → refusal (tableBad t ∷ ground 9 (c .fault) ∷ []) ≡ some (refusedAs q) → OneLineIs t k c buffer (made.Refused q) buffer
   unfolding printing
   line-refused q why = ap (λ (o : Option Refused). printing o c buffer) (sym (refused-first (row-first _ _ _) (refusedAs q) why))
 
-  pub line-put : refusal (table t ∷ ground 9 (c .fault) ∷ []) ≡ none → (l : Line) → bytesOf l ≡ c .line
+  pub line-put : refusal (tableBad t ∷ ground 9 (c .fault) ∷ []) ≡ none → (l : Line) → bytesOf l ≡ c .line
       → (r : Made) (last : List ℕ) → PutIs l (c .next) buffer r last → OneLineIs t k c buffer r last
   unfolding printing
   line-put fine l same r last f =

@@ -9,10 +9,11 @@ use native.Mathlib.Omega.{arith}
 use borrow.Author.Tests.{ltb-true, eq-eqb, ne-eqb}
 use lib.Dec.{ltb, eqb}
 use lib.ListN.{length, length-append}
+use Rattle.rules.specs.Records.{tableBad, tasksOrIndexBad}
 use Rattle.basis.specs.Words.{_!_, has, those, orElse, unless}
 use Rattle.rules.specs.Numbers.{firstBadTask}
 use Rattle.file_rules.specs.Printers.{responseLine}
-use Rattle.rules.specs.Refusals.{Refused, refusedAs, badTable, badTasksOrIndex, refusal}
+use Rattle.rules.specs.Refusals.{Refused, refusedAs, refusal}
 use Rattle.rules.specs.TaskResponse.{rankOf, responseOfTask}
 use Rattle.rules.specs.declared.Refusal.{Refusal}
 use Rattle.rules.specs.declared.Table.{Table}
@@ -21,7 +22,7 @@ use Rattle.laws.proofs.Tests.{some-is-none, unless-none}
 use Rattle.laws.proofs.Numbers.{tasks-good}
 use Rattle.laws.proofs.Places.{those-next, those-skip}
 use Rattle.laws.proofs.Refusals.{no-ground}
-use Rattle.ranges.proofs.Outcomes.{was-refused, was-given}
+use Rattle.verdicts.proofs.Outcomes.{was-refused, was-given}
 use Rattle.responses.specs.Answers.{responseAs}
 use Rattle.responses.specs.Promises.{TaskResponseIs}
 use Rattle.responses.specs.declared.Response.{Response}
@@ -73,7 +74,7 @@ module _ (part : List ℕ) (i : ℕ) where
 -- ---- the row of task i
 module _ (t : Table) (k : Tasks) (i : ℕ) (x : Response) (e : TaskResponseIs t k i x) where
   abbrev first : Option Refused
-  first = refusal (badTable (t .count) (t .period) (t .budget) (t .phase) ∷ badTasksOrIndex (t .count) (k .count) (k .partition) (k .gap) (k .cost) i ∷ [])
+  first = refusal (tableBad t ∷ tasksOrIndexBad t k i ∷ [])
 
   abbrev ticks : ℕ
   ticks = responseOfTask (t .period) (t .budget) (k .count) (k .partition) (k .gap) (k .cost) i

@@ -4,7 +4,7 @@ use mathlib.Core.Bool.{cond}
 use mathlib.Core.List.{List}
 use mathlib.Core.Option.{Option}
 use lib.Dec.{eqb}
-use Rattle.rules.specs.Refusals.{badTasks, badTasksOrIndex}
+use Rattle.rules.specs.Records.{tasksOrIndexBad, tasksBad}
 use Rattle.file_rules.specs.Printers.{responseHeader, endLine, rowOf}
 use Rattle.rules.specs.declared.Table.{Table}
 use Rattle.rules.specs.declared.Tasks.{Tasks}
@@ -22,13 +22,13 @@ pub record Coming : Type 0 where
 module _ (t : Table) (k : Tasks) where
   -- a line that no task makes
   abbrev pub plain : List ℕ → Next → Coming
-  plain line next = record { fault = badTasks (t .count) (k .count) (k .partition) (k .gap) (k .cost) .applies; line = line; next = next }
+  plain line next = record { fault = tasksBad t k .applies; line = line; next = next }
 
   -- the row of task i, which must be there
   abbrev pub row : ℕ → Coming
   row i =
       record {
-        fault = badTasksOrIndex (t .count) (k .count) (k .partition) (k .gap) (k .cost) i .applies;
+        fault = tasksOrIndexBad t k i .applies;
         line = rowOf t k i;
         next = next.Line (cursor.Task (i + 1));
       }

@@ -4,14 +4,15 @@ use mathlib.Core.Path.{_≡_}
 use mathlib.Core.List.{List, [], _∷_}
 use mathlib.Core.Option.{Option, some, none}
 use lib.ListN.{length}
-use Rattle.rules.specs.Refusals.{Refused, refusedAs, Ground, ground, badTable, badTasks, shortBuffer, refusal}
+use Rattle.rules.specs.Records.{tableBad, tasksBad}
+use Rattle.rules.specs.Refusals.{Refused, refusedAs, Ground, ground, shortBuffer, refusal}
 use Rattle.rules.specs.declared.Table.{Table}
 use Rattle.rules.specs.declared.Tasks.{Tasks}
-use Rattle.ranges.specs.Outcome.{Outcome, refused, gives}
-use Rattle.ranges.specs.Verdicts.{verdictAs}
-use Rattle.ranges.specs.declared.Verdict.{Verdict}
+use Rattle.verdicts.specs.Outcome.{Outcome, refused, gives}
+use Rattle.verdicts.specs.Verdicts.{verdictAs}
+use Rattle.verdicts.specs.declared.Verdict.{Verdict}
 use Rattle.lines.specs.Lines.{bytesOf}
-use Rattle.lines.specs.Promises.{onto}
+use Rattle.basis.specs.Words.{onto}
 use Rattle.lines.specs.declared.Line.{Line}
 use Rattle.response_lines.specs.Coming.{Coming, plain, row, coming}
 use Rattle.response_lines.specs.declared.Cursor.{Cursor}
@@ -43,14 +44,10 @@ printing none c buffer = record { says = gives (record { length = length (c .lin
 printing (some r) c buffer = record { says = refused r; buffer = buffer }
 
 -- ---- promises
--- the ground that every line has: refusal 1
-abbrev pub table : Table → Ground
-table t = badTable (t .count) (t .period) (t .budget) (t .phase)
-
 module _ (t : Table) (k : Tasks) where
   -- what is against a line: 1, 9 and 7
   abbrev pub against : Coming → List ℕ → List Ground
-  against c buffer = table t ∷ ground 9 (c .fault) ∷ shortBuffer (length (c .line)) (length buffer) ∷ []
+  against c buffer = tableBad t ∷ ground 9 (c .fault) ∷ shortBuffer (length (c .line)) (length buffer) ∷ []
 
   -- one line
   abbrev pub OneLineIs : Coming → List ℕ → Made → List ℕ → Type 0
@@ -58,7 +55,7 @@ module _ (t : Table) (k : Tasks) where
 
   -- what is against the table and the tasks: 1 and 9
   abbrev pub TasksJudgedIs : Verdict → Type 0
-  TasksJudgedIs v = verdictAs v ≡ refusal (table t ∷ badTasks (t .count) (k .count) (k .partition) (k .gap) (k .cost) ∷ [])
+  TasksJudgedIs v = verdictAs v ≡ refusal (tableBad t ∷ tasksBad t k ∷ [])
 
   -- a line that no task makes
   abbrev pub PlainIs : Line → Next → List ℕ → Made → List ℕ → Type 0

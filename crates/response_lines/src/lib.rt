@@ -6,7 +6,6 @@ ghost use Rattle.response_lines.specs.Promises.{TasksJudgedIs, PutIs, Pl
 use lines::Line;
 use lines::Written;
 use lines::write_line;
-use ranges::Verdict;
 use ranges::judge_table;
 use responses::Response;
 use responses::task_response;
@@ -14,6 +13,7 @@ use rules::Refusal;
 use rules::Table;
 use rules::Tasks;
 use tasks::judge_tasks;
+use verdicts::Verdict;
 
 // What comes next: the header, or the row of a task. After the last task it is the end.
 pub enum Cursor {

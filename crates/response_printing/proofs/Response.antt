@@ -13,8 +13,8 @@ use Rattle.rules.specs.declared.Refusal.{Refusal}
 use Rattle.rules.specs.declared.Table.{Table}
 use Rattle.rules.specs.declared.Tasks.{Tasks}
 use Rattle.laws.proofs.Tests.{some-is-none}
-use Rattle.ranges.specs.declared.Verdict.the-variants as verdict
-use Rattle.ranges.proofs.Outcomes.{given-as, never-both}
+use Rattle.verdicts.specs.declared.Verdict.the-variants as verdict
+use Rattle.verdicts.proofs.Outcomes.{given-as, never-both}
 use Rattle.lines.specs.Lines.{longestLine}
 use Rattle.response_lines.specs.Promises.{OneLine, madeAs, ResponseLineIs}
 use Rattle.response_lines.specs.declared.Cursor.{Cursor}

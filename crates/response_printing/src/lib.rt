@@ -4,7 +4,6 @@ ghost use lib.ListN.{length};
 ghost use Rattle.response_lines.specs.declared.Cursor.the-variants.{Header};
 ghost use Rattle.outputs.specs.ResponseMoments.{RowAt, rowsToWrite};
 ghost use Rattle.response_printing.specs.Promises.{PrintResponseIs};
-use ranges::Verdict;
 use refusal_printing::print_refusal;
 use response_lines::Cursor;
 use response_lines::Made;
@@ -12,6 +11,7 @@ use response_lines::Next;
 use response_lines::response_line;
 use rules::Table;
 use rules::Tasks;
+use verdicts::Verdict;
 use whole_file::judge_file;
 
 // Row by row into a buffer that holds them all: at most 66 lines.

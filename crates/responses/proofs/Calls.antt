@@ -9,11 +9,12 @@ use Rattle.rules.specs.declared.Tasks.{Tasks}
 use Rattle.laws.proofs.Numbers.{table-good, tasks-good}
 use Rattle.laws.proofs.Refusals.{table-then-tasks}
 use Rattle.laws.proofs.TaskResponse.{response-so-far}
-use Rattle.ranges.specs.Outcome.{gives}
+use Rattle.verdicts.specs.Outcome.{gives}
 use Rattle.ranges.specs.Promises.{JudgeTableIs}
-use Rattle.ranges.specs.declared.Verdict.{Verdict}
-use Rattle.ranges.specs.declared.Verdict.the-variants.{Good}
-use Rattle.ranges.proofs.Outcomes.{table-in-range, answers-second}
+use Rattle.verdicts.specs.declared.Verdict.{Verdict}
+use Rattle.verdicts.specs.declared.Verdict.the-variants.{Good}
+use Rattle.ranges.proofs.Good.{table-in-range}
+use Rattle.verdicts.proofs.Outcomes.{answers-second}
 use Rattle.tasks.specs.Promises.{JudgeTaskIs}
 use Rattle.tasks.proofs.Judged.{asked-tasks, asked-there}
 use Rattle.responses.specs.Inner.{Ready}

@@ -1,7 +1,7 @@
 -- The answer of this crate's function, as 01 has it.
 use Prim.Native.Nat.{ℕ}
 use Rattle.rules.specs.Refusals.{refusedAs}
-use Rattle.ranges.specs.Outcome.{Outcome, refused, gives}
+use Rattle.verdicts.specs.Outcome.{Outcome, refused, gives}
 use Rattle.responses.specs.declared.Response.{Response}
 use Rattle.responses.specs.declared.Response.the-variants as response
 

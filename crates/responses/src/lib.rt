@@ -8,13 +8,13 @@ ghost use Rattle.basis.specs.Reckoned.{Reckoned};
 ghost use Rattle.rules.specs.TaskResponse.{settledResponse, ticksOrLate, ownTasks, responseOfTask};
 ghost use Rattle.responses.specs.Inner.{Ready};
 ghost use Rattle.responses.specs.Promises.{TaskResponseIs};
-use ranges::Verdict;
 use ranges::judge_table;
 use rules::Refusal;
 use rules::Table;
 use rules::Task;
 use rules::Tasks;
 use tasks::judge_task;
+use verdicts::Verdict;
 
 // The ticks that a task takes at worst, 0 for late.
 pub enum Response {

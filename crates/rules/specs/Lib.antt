@@ -12,5 +12,10 @@ pub mod Release
 pub mod Run
 pub mod TaskResponse
 pub mod Refusals
+-- the grounds of a refusal over the records that calls take
+pub mod Records
+-- all of these under one name, to compute with
+pub mod Worked
+-- and figures that they give
 pub mod Sums
 pub mod Corners

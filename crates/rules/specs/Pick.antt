@@ -7,11 +7,16 @@ use Rattle.basis.specs.Words.{total}
 use Rattle.rules.specs.Candidates.{candidates, idle, inversion}
 use Rattle.rules.specs.Weights.{weights}
 
+module _ (n : ℕ) (T B b o : List ℕ) where
+  -- "S is the sum of the weights."
+  unfoldable pub S : ℕ
+  S = total (weights n T B b o inversion)
+
 -- "Take the remainder of the word by S."
 unfoldable pub position : ℕ → ℕ → ℕ
 position word S = word % S
 
--- "The pick is the first candidate whose running sum of weights exceeds it." (A list that ends before that has no pick; no list of 01's does.)
+-- "The pick is the first candidate whose running sum of weights exceeds it." (A list that ends before that gives idle; no list of 01's does.)
 unfoldable pub firstExceeding : ℕ → ℕ → List ℕ → List ℕ → ℕ
 firstExceeding at running [] xs = idle
 firstExceeding at running (c ∷ cs) [] = idle
@@ -20,11 +25,7 @@ firstExceeding at running (c ∷ cs) (x ∷ xs) =
     cond (ltb at (running + x)) c later
 
 module _ (n : ℕ) (T B b o : List ℕ) where
-  -- "S is the sum of the weights."
-  unfoldable pub S : ℕ
-  S = total (weights n T B b o inversion)
-
   -- "One word is used per decision, even for a list of one."
   unfoldable pub decision : ℕ → ℕ
   decision word =
-      firstExceeding (position word S) 0 (candidates n T B b o inversion) (weights n T B b o inversion)
+      firstExceeding (position word (S n T B b o)) 0 (candidates n T B b o inversion) (weights n T B b o inversion)

@@ -72,7 +72,7 @@ notActive n b i = ground 6 (unless (releaseAllowed n b i) i)
 
 -- "7 | buffer too short | length needed"
 abbrev pub shortBuffer : ℕ → ℕ → Ground
-shortBuffer needed has = ground 7 (unless (leb needed has) needed)
+shortBuffer needed room = ground 7 (unless (leb needed room) needed)
 
 -- "8 | malformed file | offset of the record", where a record is malformed
 abbrev pub malformed : Option ℕ → Ground

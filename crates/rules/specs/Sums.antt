@@ -4,16 +4,16 @@ use mathlib.Core.Path.{refl}
 use mathlib.Core.List.{List, [], _∷_, map}
 use mathlib.Core.Option.{Option, some, none}
 use lib.ListN.{replicate}
-use Rattle.basis.specs.Words.{ceil, sumBelow, total, all, those, first, filled, settle}
 use Rattle.basis.specs.Rows.{Row, _is_, Hold, number, answer}
 use Rattle.rules.specs.Numbers.{Pairs}
-use Rattle.rules.specs.Admission.{demand, atRest, responseWithin, firstUnadmitted}
-use Rattle.rules.specs.FreshStart.{freshB, freshO, freshStart}
-use Rattle.rules.specs.BusyLength.{arrivals, active, busyStart, refill, busySum, deadline, busyTest, passes}
-use Rattle.rules.specs.Candidates.{mayRun, members, idleListed, candidates, idle, inversion}
-use Rattle.rules.specs.Weights.{weight, idleWeight, memberWeights, weights}
-use Rattle.rules.specs.Pick.{position, firstExceeding, S, decision}
-use Rattle.rules.specs.TaskResponse.{Work, load, nextResponse, settledResponse, taskResponse}
+use Rattle.rules.specs.Admission.{responseWithin}
+use Rattle.rules.specs.FreshStart.{freshStart}
+use Rattle.rules.specs.BusyLength.{busyStart, busySum, deadline}
+use Rattle.rules.specs.Candidates.{candidates, idle, inversion}
+use Rattle.rules.specs.Weights.{weights}
+use Rattle.rules.specs.Pick.{position, S, decision}
+use Rattle.rules.specs.TaskResponse.{Work, taskResponse}
+use Rattle.rules.specs.Worked.{worked}
 use Rattle.rules.specs.Refusals.{Refused, notAdmitted, refusal}
 
 -- a refusal as numbers: its own and the second
@@ -92,5 +92,5 @@ sums =
     ∷ []
 
 pub sums-hold : Hold sums
-unfolding ceil sumBelow total all those first filled settle demand atRest responseWithin firstUnadmitted freshB freshO freshStart arrivals active busyStart refill busySum deadline busyTest passes mayRun members idleListed candidates weight idleWeight memberWeights weights position firstExceeding S decision load nextResponse settledResponse taskResponse refusal
+unfolding worked
 sums-hold = refl

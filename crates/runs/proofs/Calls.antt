@@ -6,28 +6,29 @@ use mathlib.Core.List.{List}
 use mathlib.Core.Option.{Option, some, none}
 use borrow.Author.Tests.{le-leb, lt-leb}
 use lib.ListN.{length}
-use Rattle.basis.specs.Words.{unless}
+use Rattle.basis.specs.Words.{onto, unless}
 use Rattle.rules.specs.Numbers.{Pairs}
-use Rattle.rules.specs.Tick.{tick}
 use Rattle.rules.specs.Run.{Ran}
 use Rattle.rules.specs.Refusals.{Refused, refusedAs, Ground, refusal}
 use Rattle.rules.specs.declared.Refusal.{Refusal}
 use Rattle.rules.specs.declared.Refusal.the-variants.{ShortBuffer}
 use Rattle.rules.specs.declared.Table.{Table}
-use Rattle.ranges.specs.Outcome.{refused, gives}
-use Rattle.ranges.specs.Verdicts.{verdictAs}
-use Rattle.ranges.specs.declared.Verdict.{Verdict}
-use Rattle.ranges.specs.declared.Verdict.the-variants as verdict
+use Rattle.verdicts.specs.Outcome.{refused, gives}
+use Rattle.verdicts.specs.Verdicts.{verdictAs}
+use Rattle.verdicts.specs.declared.Verdict.{Verdict}
+use Rattle.verdicts.specs.declared.Verdict.the-variants as verdict
 use Rattle.laws.proofs.Refusals.{seven, late-last}
-use Rattle.ranges.proofs.Verdicts.{verdict-refused, verdict-good, refused-early}
-use Rattle.ranges.proofs.Outcomes.{late-decides, few-of-state}
+use Rattle.verdicts.proofs.Verdicts.{verdict-refused, verdict-good, refused-early}
+use Rattle.verdicts.proofs.Outcomes.{late-decides}
+use Rattle.pairs.proofs.Good.{few-of-state}
 use Rattle.draw.specs.Promises.{ChooseIs}
 use Rattle.draw.proofs.Calls.{chosen}
 use Rattle.draw.specs.declared.Decision.the-variants as decided
-use Rattle.scheduler.specs.States.{pairs}
-use Rattle.scheduler.specs.Promises.{JudgedIs, PassTickIs}
+use Rattle.scheduler.specs.States.{pairs, tickOf}
+use Rattle.scheduler.specs.Promises.{JudgedIs}
+use Rattle.ticks.specs.Promises.{PassTickIs}
 use Rattle.scheduler.specs.declared.State.{State}
-use Rattle.runs.specs.Promises.{Step, stepped, Runs, runs, picksInto, StepIs, RunIs, Filled}
+use Rattle.runs.specs.Promises.{Step, stepped, Runs, runs, StepIs, RunIs, Filled}
 
 -- ---- a step or a run that is refused, and one that is made
 module _ (gs : List Ground) (before after : Pairs) (pick : ℕ) where
@@ -44,7 +45,7 @@ module _ (gs : List Ground) (before : Pairs) (buffer : List ℕ) (ran : Ran) whe
   unfolding runs verdictAs
   no-run q e = sym (ap (λ (x : Option Refused). runs x before buffer ran) e)
 
-  a-run : (p : Pairs) (last : List ℕ) → refusal gs ≡ none → p ≡ ran .after → last ≡ picksInto ran buffer
+  a-run : (p : Pairs) (last : List ℕ) → refusal gs ≡ none → p ≡ ran .after → last ≡ onto (ran .picks) buffer
       → _≡_ {A = Runs} (record { after = p; refused = verdictAs verdict.Good; buffer = last }) (runs (refusal gs) before buffer ran)
   unfolding runs verdictAs
   a-run p last e d f = (λ i. record { after = d i; refused = none; buffer = f i }) ∙ sym (ap (λ (x : Option Refused). runs x before buffer ran) e)
@@ -62,7 +63,7 @@ module _ (t : Table) (s : State) (v : Verdict) (judged : JudgedIs t s v) where
         → PassTickIs (t .count) (t .period) (t .budget) (s .b) (s .o) pick (f .b) (f .o) → StepIs t s word (record { state = f; decision = decided.Pick pick })
     step-made word pick f e d =
         ap (λ (p : Pairs). record { after = p; says = gives pick }) d
-        ∙ ap (λ p. record { after = tick (t .count) (t .period) (t .budget) (s .b) (s .o) p; says = gives p }) (chosen (t .count) (t .period) (t .budget) (s .b) (s .o) word pick (few-of-state _ _ _ _ _ _ v judged good) e)
+        ∙ ap (λ p. record { after = tickOf t s p; says = gives p }) (chosen (t .count) (t .period) (t .budget) (s .b) (s .o) word pick (few-of-state _ _ _ _ _ _ v judged good) e)
         ∙ a-step _ (pairs s) _ _ (sym judged ∙ verdict-good v good)
 
     pub run-short : (words buffer : List ℕ) → length buffer < length words

@@ -16,7 +16,7 @@ use Rattle.laws.proofs.Run.{run-next, run-length}
 use Rattle.draw.specs.Promises.{ChooseIs}
 use Rattle.draw.proofs.Calls.{chosen}
 use Rattle.scheduler.specs.States.{pairs}
-use Rattle.scheduler.specs.Promises.{PassTickIs}
+use Rattle.ticks.specs.Promises.{PassTickIs}
 use Rattle.runs.specs.Promises.{Filled}
 use Rattle.scheduler.specs.declared.State.{State}
 

@@ -1,20 +1,21 @@
 -- What each public function of this crate says, and promises of its answer r, the state after it, and lent memory.
 use Prim.Native.Nat.{ℕ}
 use mathlib.Core.Path.{_≡_}
-use mathlib.Core.List.{List, [], _∷_, _++_}
+use mathlib.Core.List.{List, [], _∷_}
 use mathlib.Core.Option.{Option, some, none}
-use lib.ListN.{length, drop}
+use lib.ListN.{length}
+use Rattle.rules.specs.Records.{tableBad}
+use Rattle.scheduler.specs.States.{stateBad, pairs, decisionOf, tickOf}
+use Rattle.basis.specs.Words.{onto}
 use Rattle.rules.specs.Numbers.{Pairs}
 use Rattle.rules.specs.Pick.{decision}
-use Rattle.rules.specs.Tick.{tick}
 use Rattle.rules.specs.Run.{Ran, run}
 use Rattle.rules.specs.Refusals.{Refused, shortBuffer, refusal}
 use Rattle.rules.specs.declared.Table.{Table}
-use Rattle.ranges.specs.Outcome.{Outcome, refused, gives}
-use Rattle.ranges.specs.Verdicts.{verdictAs}
+use Rattle.verdicts.specs.Outcome.{Outcome, refused, gives}
+use Rattle.verdicts.specs.Verdicts.{verdictAs}
 use Rattle.draw.specs.Promises.{decisionAs, ChooseIs}
-use Rattle.scheduler.specs.States.{pairs}
-use Rattle.scheduler.specs.Promises.{table, state, PassTickIs}
+use Rattle.ticks.specs.Promises.{PassTickIs}
 use Rattle.scheduler.specs.declared.State.{State}
 use Rattle.scheduler.specs.declared.Changed.{Changed}
 use Rattle.runs.specs.declared.Stepped.{Stepped}
@@ -41,12 +42,9 @@ pub record Runs : Type 0 where
 abbrev pub ranAs : Changed → List ℕ → Runs
 ranAs r buffer = record { after = pairs (r .state); refused = verdictAs (r .verdict); buffer = buffer }
 
--- "picks go to a lent byte buffer"; "Bytes past the last pick stay."
-abbrev pub picksInto : Ran → List ℕ → List ℕ
-picksInto ran buffer = ran .picks ++ drop (length (ran .picks)) buffer
-
+-- "picks go to a lent byte buffer"; "Bytes past the last pick stay."; "Nothing is written to lent memory on a refusal"
 unfoldable pub runs : Option Refused → Pairs → List ℕ → Ran → Runs
-runs none before buffer ran = record { after = ran .after; refused = none; buffer = picksInto ran buffer }
+runs none before buffer ran = record { after = ran .after; refused = none; buffer = onto (ran .picks) buffer }
 runs (some r) before buffer ran = record { after = before; refused = some r; buffer = buffer }
 
 -- ---- promises
@@ -54,9 +52,9 @@ module _ (t : Table) (s : State) where
   -- one decision and its tick: refusals 1 and 3
   abbrev pub stepSays : ℕ → Step
   stepSays word =
-      stepped (refusal (table t s ∷ state t s ∷ [])) (pairs s)
-      (tick (t .count) (t .period) (t .budget) (s .b) (s .o) (decision (t .count) (t .period) (t .budget) (s .b) (s .o) word))
-      (decision (t .count) (t .period) (t .budget) (s .b) (s .o) word)
+      stepped (refusal (tableBad t ∷ stateBad t s ∷ [])) (pairs s)
+      (tickOf t s (decisionOf t s word))
+      (decisionOf t s word)
 
   abbrev pub StepIs : ℕ → Stepped → Type 0
   StepIs word r = steppedAs r ≡ stepSays word
@@ -64,7 +62,7 @@ module _ (t : Table) (s : State) where
   -- a run over the words into the buffer, which is `last` after it: refusals 1, 3 and 7
   abbrev pub runSays : List ℕ → List ℕ → Runs
   runSays words buffer =
-      runs (refusal (table t s ∷ state t s ∷ shortBuffer (length words) (length buffer) ∷ [])) (pairs s) buffer
+      runs (refusal (tableBad t ∷ stateBad t s ∷ shortBuffer (length words) (length buffer) ∷ [])) (pairs s) buffer
       (run (t .count) (t .period) (t .budget) (pairs s) words)
 
   abbrev pub RunIs : List ℕ → List ℕ → Changed → List ℕ → Type 0
@@ -78,4 +76,4 @@ pub record DrawnIs (n : ℕ) (T B b o : List ℕ) (word r : ℕ) (bs os : List �
 -- what the loop of a run gives
 pub record Filled (n : ℕ) (T B : List ℕ) (s : State) (words buffer : List ℕ) (r : State) (last : List ℕ) : Type 0 where
   pub after : pairs r ≡ run n T B (pairs s) words .after
-  pub picks : last ≡ picksInto (run n T B (pairs s) words) buffer
+  pub picks : last ≡ onto (run n T B (pairs s) words .picks) buffer

@@ -4,13 +4,13 @@ ghost use lib.ListN as Seq;
 ghost use Rattle.runs.specs.Promises.{DrawnIs, StepIs, RunIs, Filled};
 use draw::Decision;
 use draw::choose;
-use ranges::Verdict;
-use ranges::judge;
+use pairs::judge;
 use rules::Refusal;
 use rules::Table;
 use scheduler::Changed;
 use scheduler::State;
-use scheduler::pass_tick;
+use ticks::pass_tick;
+use verdicts::Verdict;
 
 // The state after a step, and its pick.
 pub struct Stepped {

@@ -5,9 +5,7 @@ use mathlib.Core.Bool.{Bool, true, false, cond}
 use mathlib.Core.List.{List, [], _∷_}
 use mathlib.Core.Option.{Option, some, none}
 use native.Mathlib.Omega.{arith}
-use borrow.Author.Tests.{eqb-true, ne-eqb, le-leb, lt-leb}
-use types.Run.{OneOf, miss}
-use denote.Enum.Declared.{tagOf}
+use borrow.Author.Tests.{eqb-true, eq-eqb, ne-eqb, le-leb, lt-leb}
 use lib.Dec.{leb, eqb}
 use lib.ListN.{length}
 use Rattle.basis.specs.Words.{unless}
@@ -17,13 +15,14 @@ use Rattle.rules.specs.Release.{releaseAllowed}
 use Rattle.file_rules.specs.Events as rule
 use Rattle.file_rules.specs.Printers.{eventLine, releaseLine}
 use Rattle.rules.specs.declared.Refusal.{Refusal}
-use Rattle.rules.specs.declared.Refusal.the-variants.{BadPartition, NotAdmitted, BadPair, NoWord, NotListed, NotActive, ShortBuffer, BadRecord, BadTask}
-use Rattle.rules.proofs.Refusal.{the-type}
+use Rattle.rules.specs.declared.Refusal.the-variants.{ShortBuffer}
 use Rattle.rules.specs.declared.Table.{Table}
 use Rattle.laws.proofs.Tests.{none-is-some}
 use Rattle.laws.proofs.Refusals.{sevenOr, sevenFirst, seven-among, seven-alone, six-from}
-use Rattle.ranges.specs.Outcome.{refused, gives}
-use Rattle.ranges.proofs.Outcomes.{refused-as, given-as, never-both}
+use Rattle.verdicts.specs.Outcome.{refused, gives}
+use Rattle.verdicts.specs.Promises.{NumbersAre}
+use Rattle.verdicts.specs.declared.Numbered.{Numbered}
+use Rattle.verdicts.proofs.Outcomes.{refused-as, given-as, never-both}
 use Rattle.scheduler.specs.States.{pairs}
 use Rattle.scheduler.specs.declared.State.{State}
 use Rattle.lines.specs.Lines.{bytesOf}
@@ -42,14 +41,14 @@ use Rattle.schedule_lines.specs.declared.Printed.{Printed}
 use Rattle.schedule_lines.proofs.Puts.{same-line}
 
 -- ---- a refused event: 7 before 6
-module _ (s : State) (ticks : ℕ) (why : Refusal) (room : ℕ) where
-  module _ (index : ℕ) (is : why ≡ NotActive index) (needed : ℕ) (counted : LineLengthIs (line.Release ticks index) needed) where
+module _ (s : State) (ticks : ℕ) (why : Refusal) (room : ℕ) (r : Numbered) (told : NumbersAre why r) where
+  module _ (is : r .number ≡ 6) (needed : ℕ) (counted : LineLengthIs (line.Release ticks (r .second)) needed) where
     same-length : needed ≡ length (releaseLine ticks (refusedAs why .second))
     unfolding bytesOf
-    same-length = counted ∙ ap (λ (q : Refusal). length (releaseLine ticks (refusedAs q .second))) (sym is)
+    same-length = counted ∙ ap (λ n. length (releaseLine ticks n)) (told .1)
 
     is-six : eqb (refusedAs why .number) 6 ≡ true
-    is-six = ap (λ (q : Refusal). eqb (refusedAs q .number) 6) is
+    is-six = eq-eqb _ 6 (sym (told .0) ∙ is)
 
     pub seven-here : room < needed → RefusedIs s ticks why room (record { state = s; made = made.Refused (ShortBuffer needed) })
     seven-here l =
@@ -60,24 +59,12 @@ module _ (s : State) (ticks : ℕ) (why : Refusal) (room : ℕ) where
               ∙ sym (ap refused (rw (is-six, lt-leb (length (releaseLine ticks (refusedAs why .second))) room (subst (λ (n : ℕ). room < n) same-length l))));
         }
 
-    pub six-here : needed ≤ room → RefusedIs s ticks why room (record { state = s; made = made.Refused (NotActive index) })
-    six-here l = record { kept = refl; says = ap (λ (q : Refusal). refused (refusedAs q)) (sym is) ∙ sym (ap refused (rw (is-six, le-leb (length (releaseLine ticks (refusedAs why .second))) room (subst (λ (n : ℕ). n ≤ room) same-length l)))) }
+    pub six-here : needed ≤ room → RefusedIs s ticks why room (record { state = s; made = made.Refused why })
+    six-here l =
+        record { kept = refl; says = sym (ap refused (rw (is-six, le-leb (length (releaseLine ticks (refusedAs why .second))) room (subst (λ (n : ℕ). n ≤ room) same-length l)))) }
 
-  pub not-six : (refusedAs why .number ≡ 6 → ⊥) → RefusedIs s ticks why room (record { state = s; made = made.Refused why })
-  not-six n = record { kept = refl; says = sym (ap refused (rw (ne-eqb (refusedAs why .number) 6 n))) }
-
--- the tags of all refusals but 6: what the code knows of one that isn't
-pub another : (s : State) (ticks : ℕ) (why : Refusal) (room : ℕ) → OneOf (0 ∷ 1 ∷ 2 ∷ 3 ∷ 4 ∷ 6 ∷ 7 ∷ 8 ∷ []) (tagOf the-type why)
-    → RefusedIs s ticks why room (record { state = s; made = made.Refused why })
-another s ticks (BadPartition i) room h = not-six s ticks (BadPartition i) room (λ d. omega (arith, d))
-another s ticks (NotAdmitted i) room h = not-six s ticks (NotAdmitted i) room (λ d. omega (arith, d))
-another s ticks (BadPair i) room h = not-six s ticks (BadPair i) room (λ d. omega (arith, d))
-another s ticks NoWord room h = not-six s ticks NoWord room (λ d. omega (arith, d))
-another s ticks (NotListed i) room h = not-six s ticks (NotListed i) room (λ d. omega (arith, d))
-another s ticks (NotActive i) room h = absurd (miss (0 ∷ 1 ∷ 2 ∷ 3 ∷ 4 ∷ 6 ∷ 7 ∷ 8 ∷ []) 5 tt h)
-another s ticks (ShortBuffer i) room h = not-six s ticks (ShortBuffer i) room (λ d. omega (arith, d))
-another s ticks (BadRecord i) room h = not-six s ticks (BadRecord i) room (λ d. omega (arith, d))
-another s ticks (BadTask i) room h = not-six s ticks (BadTask i) room (λ d. omega (arith, d))
+  pub not-six : (r .number ≡ 6 → ⊥) → RefusedIs s ticks why room (record { state = s; made = made.Refused why })
+  not-six other = record { kept = refl; says = sym (ap refused (rw (ne-eqb (refusedAs why .number) 6 (λ e. other (told .0 ∙ e))))) }
 
 -- ---- what was replayed
 module _ (t : Table) (s : State) (file : List ℕ) (at ticks : ℕ) (buffer : List ℕ) (r : Replayed) (played : ReplayIs t s file at r) where

@@ -12,16 +12,17 @@ use Rattle.rules.specs.declared.Refusal.{Refusal}
 use Rattle.rules.specs.declared.Refusal.the-variants.{BadRecord}
 use Rattle.rules.specs.declared.Table.{Table}
 use Rattle.laws.proofs.Refusals.{nothing-last, line-first, size-first, file-alone, refused-first, refused-then}
-use Rattle.ranges.specs.Outcome.{refused, gives}
-use Rattle.ranges.specs.declared.Verdict.{Verdict}
-use Rattle.ranges.specs.declared.Verdict.the-variants as verdict
-use Rattle.ranges.proofs.Verdicts.{verdict-refused, refused-early, left-to-others}
-use Rattle.ranges.proofs.Outcomes.{refused-as, given-as, never-both}
+use Rattle.verdicts.specs.Outcome.{refused, gives}
+use Rattle.verdicts.specs.declared.Verdict.{Verdict}
+use Rattle.verdicts.specs.declared.Verdict.the-variants as verdict
+use Rattle.verdicts.proofs.Verdicts.{verdict-refused, refused-early, left-to-others}
 use Rattle.scheduler.specs.States.{pairs}
-use Rattle.scheduler.specs.Promises.{state, JudgedIs}
+use Rattle.scheduler.specs.Promises.{JudgedIs}
 use Rattle.scheduler.specs.declared.State.{State}
-use Rattle.lines.specs.Lines.{bytesOf, writtenAs}
-use Rattle.lines.specs.Promises.{Writing, wroteAs, onto, writing, WriteLineIs}
+use Rattle.lines.specs.Lines.{bytesOf}
+use Rattle.lines.specs.Promises.{WriteLineIs}
+use Rattle.lines.proofs.Calls.{was-written, was-short}
+use Rattle.basis.specs.Words.{onto}
 use Rattle.lines.specs.declared.Line.{Line}
 use Rattle.lines.specs.declared.Written.{Written}
 use Rattle.lines.specs.declared.Written.the-variants as written
@@ -42,24 +43,24 @@ counted-more ticks e = sym (rw (ne-eqb ticks 18446744073709551615 e))
 
 -- ---- a line, as it is written
 module _ (l : Line) (before after : State) (next : Next) (buffer : List ℕ) (w : Written) (last : List ℕ) (e : WriteLineIs l buffer w last) where
+  abbrev it : Coming
+  it = record { fault = none; line = bytesOf l; after = pairs after; inactive = none; next = next }
+
+  said : (o : Option Refused) → refusal (shortBuffer (length (bytesOf l)) (length buffer) ∷ []) ≡ o → (r : Printed)
+      → printedAs r last ≡ printing o (pairs before) it buffer → PutIs l before after next buffer r last
+  said o f r h = h ∙ ap (λ (x : Option Refused). printing x (pairs before) it buffer) (sym f)
+
   pub put-made : (n : ℕ) → w ≡ written.Bytes n → PutIs l before after next buffer (record { state = after; made = made.Line n next }) last
-  unfolding printing writing
-  put-made n d = go (refusal (shortBuffer (length (bytesOf l)) (length buffer) ∷ [])) e
-    where
-      go : (o : Option Refused) → wroteAs w last ≡ writing o (bytesOf l) buffer
-          → printedAs (record { state = after; made = made.Line n next }) last ≡ printing o (pairs before) (record { fault = none; line = bytesOf l; after = pairs after; inactive = none; next = next }) buffer
-      go none h =
-          λ i. record { after = pairs after; says = gives (record { length = given-as (sym (ap writtenAs d) ∙ ap (λ (x : Writing). x .says) h) i; next = next }); buffer = h i .buffer }
-      go (some r) h = never-both (sym (ap writtenAs d) ∙ ap (λ (x : Writing). x .says) h)
+  unfolding printing
+  put-made n d =
+      let f = was-written l buffer w last e n d in
+      said none (f .0) (record { state = after; made = made.Line n next }) (λ i. record { after = pairs after; says = gives (record { length = f .1 i; next = next }); buffer = f .2 i })
 
   pub put-refused : (q : Refusal) → w ≡ written.Refused q → PutIs l before after next buffer (record { state = before; made = made.Refused q }) last
-  unfolding printing writing
-  put-refused q d = go (refusal (shortBuffer (length (bytesOf l)) (length buffer) ∷ [])) e
-    where
-      go : (o : Option Refused) → wroteAs w last ≡ writing o (bytesOf l) buffer
-          → printedAs (record { state = before; made = made.Refused q }) last ≡ printing o (pairs before) (record { fault = none; line = bytesOf l; after = pairs after; inactive = none; next = next }) buffer
-      go none h = never-both (sym (ap (λ (x : Writing). x .says) h) ∙ ap writtenAs d)
-      go (some r) h = λ i. record { after = pairs before; says = refused (refused-as (sym (ap writtenAs d) ∙ ap (λ (x : Writing). x .says) h) i); buffer = h i .buffer }
+  unfolding printing
+  put-refused q d =
+      let f = was-short l buffer w last e q d in
+      said (some (refusedAs q)) (f .0) (record { state = before; made = made.Refused q }) (λ i. record { after = pairs before; says = refused (refusedAs q); buffer = f .1 i })
 
 -- ---- what a line gives depends on itself and what is after it alone
 pub same-line : (before : Pairs) (c d : Coming) (buffer : List ℕ) → d .line ≡ c .line → d .after ≡ c .after → d .next ≡ c .next

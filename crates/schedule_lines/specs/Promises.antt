@@ -6,20 +6,20 @@ use mathlib.Core.List.{List, [], _∷_}
 use mathlib.Core.Option.{Option, some, none}
 use lib.Dec.{leb, eqb}
 use lib.ListN.{length}
+use Rattle.rules.specs.Records.{tableBad}
+use Rattle.scheduler.specs.States.{stateBad, pairs}
 use Rattle.rules.specs.Numbers.{Pairs}
 use Rattle.rules.specs.Refusals.{Refused, refusedAs, Ground, ground, malformed, shortBuffer, refusal}
 use Rattle.file_rules.specs.MeterFile.{overLimit}
 use Rattle.file_rules.specs.Printers.{releaseLine}
 use Rattle.rules.specs.declared.Refusal.{Refusal}
 use Rattle.rules.specs.declared.Table.{Table}
-use Rattle.ranges.specs.Outcome.{Outcome, refused, gives}
-use Rattle.ranges.specs.Verdicts.{verdictAs}
-use Rattle.ranges.specs.declared.Verdict.{Verdict}
-use Rattle.scheduler.specs.States.{pairs}
-use Rattle.scheduler.specs.Promises.{table, state}
+use Rattle.verdicts.specs.Outcome.{Outcome, refused, gives}
+use Rattle.verdicts.specs.Verdicts.{verdictAs}
+use Rattle.verdicts.specs.declared.Verdict.{Verdict}
 use Rattle.scheduler.specs.declared.State.{State}
 use Rattle.lines.specs.Lines.{bytesOf}
-use Rattle.lines.specs.Promises.{onto}
+use Rattle.basis.specs.Words.{onto}
 use Rattle.lines.specs.declared.Line.{Line}
 use Rattle.schedule_lines.specs.Coming.{Coming, plain, eventComing, coming}
 use Rattle.schedule_lines.specs.declared.Cursor.{Cursor}
@@ -56,7 +56,7 @@ printing (some r) before c buffer = record { after = before; says = refused r; b
 module _ (t : Table) (s : State) where
   -- what is against a line: 8, 1, 3, 7 and 6
   abbrev pub against : Coming → List ℕ → List Ground
-  against c buffer = malformed (c .fault) ∷ table t s ∷ state t s ∷ shortBuffer (length (c .line)) (length buffer) ∷ ground 6 (c .inactive) ∷ []
+  against c buffer = malformed (c .fault) ∷ tableBad t ∷ stateBad t s ∷ shortBuffer (length (c .line)) (length buffer) ∷ ground 6 (c .inactive) ∷ []
 
   -- one line
   abbrev pub OneLineIs : Coming → List ℕ → Printed → List ℕ → Type 0
@@ -64,7 +64,7 @@ module _ (t : Table) (s : State) where
 
   -- what is against the file's size, the table and the state: 8, 1 and 3
   abbrev pub SizeJudgedIs : List ℕ → Verdict → Type 0
-  SizeJudgedIs file v = verdictAs v ≡ refusal (malformed (overLimit file) ∷ table t s ∷ state t s ∷ [])
+  SizeJudgedIs file v = verdictAs v ≡ refusal (malformed (overLimit file) ∷ tableBad t ∷ stateBad t s ∷ [])
 
   abbrev pub PlainIs : List ℕ → Line → Next → List ℕ → Printed → List ℕ → Type 0
   PlainIs file l next = OneLineIs (plain file (pairs s) (bytesOf l) next)

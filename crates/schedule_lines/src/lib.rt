@@ -6,12 +6,13 @@ use lines::Line;
 use lines::Written;
 use lines::line_length;
 use lines::write_line;
-use ranges::Verdict;
 use replay::Event;
 use replay::replay;
 use rules::Refusal;
 use rules::Table;
 use scheduler::State;
+use verdicts::Verdict;
+use verdicts::numbers;
 
 // What comes next: the header, with the offset where the events begin, or the record at an offset after so many ticks. At the file's end it is the end.
 pub enum Cursor {
@@ -98,8 +99,9 @@ fn plain_line(
 fn refused_event(state: State, ticks: u64, why: Refusal, room: usize) -> Printed
     ensures { λ r. ⌜ RefusedIs state ticks why room r ⌝ }
 {
-    if let Refusal::NotActive(index) = why {
-        let needed = line_length(Line::Release(ticks, index));
+    let said = numbers(why);
+    if said.number == 6 {
+        let needed = line_length(Line::Release(ticks, said.second));
         if room < needed {
             return Printed {
                 state,

@@ -10,8 +10,8 @@ use Rattle.rules.specs.Refusals.{Refused, refusedAs}
 use Rattle.file_rules.specs.Printers.{refusedLine, scheduleOutput}
 use Rattle.rules.specs.declared.Refusal.{Refusal}
 use Rattle.rules.specs.declared.Table.{Table}
-use Rattle.ranges.specs.declared.Verdict.the-variants as verdict
-use Rattle.ranges.proofs.Outcomes.{refused-as, given-as, never-both}
+use Rattle.verdicts.specs.declared.Verdict.the-variants as verdict
+use Rattle.verdicts.proofs.Outcomes.{refused-as, given-as, never-both}
 use Rattle.scheduler.specs.States.{pairs}
 use Rattle.scheduler.specs.Promises.{FreshIs}
 use Rattle.scheduler.specs.declared.State.{State}

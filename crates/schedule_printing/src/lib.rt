@@ -6,7 +6,6 @@ ghost use Rattle.scheduler.specs.States.{pairs};
 ghost use Rattle.schedule_lines.specs.declared.Cursor.the-variants.{Header};
 ghost use Rattle.outputs.specs.ScheduleMoments.{Moment, toWrite};
 ghost use Rattle.schedule_printing.specs.Promises.{PrintScheduleIs};
-use ranges::Verdict;
 use refusal_printing::print_refusal;
 use rules::Table;
 use schedule_lines::Cursor;
@@ -14,6 +13,7 @@ use schedule_lines::Made;
 use schedule_lines::Next;
 use schedule_lines::schedule_line;
 use scheduler::State;
+use verdicts::Verdict;
 use whole_file::judge_file;
 
 // Writes out what the buffer holds where another line might not fit, and says how much it holds then.

@@ -19,18 +19,21 @@ use Rattle.rules.specs.Refusals.{Refused, refusedAs, Ground, badTable, notAdmit
 use Rattle.rules.specs.declared.Refusal.{Refusal}
 use Rattle.rules.specs.declared.Refusal.the-variants.{NotAdmitted, NotListed, NotActive}
 use Rattle.rules.specs.declared.Table.{Table}
-use Rattle.laws.proofs.Refusals.{no-ground, refused-first, refused-then, table-then-admission, five, six, late-last}
-use Rattle.ranges.specs.declared.Verdict.{Verdict}
-use Rattle.ranges.specs.declared.Verdict.the-variants as verdict
-use Rattle.ranges.proofs.Verdicts.{refused-early}
-use Rattle.ranges.proofs.Outcomes.{late-decides, few-of-state, was-refused, was-given, few-partitions}
+use Rattle.laws.proofs.Refusals.{no-ground, refused-first, refused-then, table-then-admission, admission-alone, five, six, late-last}
+use Rattle.verdicts.specs.declared.Verdict.{Verdict}
+use Rattle.verdicts.specs.declared.Verdict.the-variants as verdict
+use Rattle.verdicts.proofs.Verdicts.{refused-early}
+use Rattle.verdicts.proofs.Outcomes.{late-decides, was-refused, was-given}
+use Rattle.pairs.proofs.Good.{few-of-state}
+use Rattle.ranges.proofs.Good.{few-partitions}
 use Rattle.standing.specs.Answers.{testAs}
 use Rattle.standing.specs.Promises.{AdmissionIs}
 use Rattle.standing.specs.declared.Test.{Test}
 use Rattle.standing.specs.declared.Test.the-variants as test
 use Rattle.candidates.specs.Promises.{MemberIs}
-use Rattle.scheduler.specs.States.{pairs}
-use Rattle.scheduler.specs.Promises.{changedAs, kept, made, change, FreshIs, JudgedIs, PassTickIs, TickIs, ReleaseIs}
+use Rattle.scheduler.specs.States.{pairs, mayTick}
+use Rattle.scheduler.specs.Promises.{changedAs, kept, made, change, FreshIs, JudgedIs, TickIs, ReleaseIs}
+use Rattle.ticks.specs.Promises.{PassTickIs}
 use Rattle.scheduler.specs.declared.State.{State}
 use Rattle.scheduler.specs.declared.Changed.{Changed}
 
@@ -47,8 +50,8 @@ module _ (gs : List Ground) (before after : Pairs) (r : Changed) where
 -- ---- a fresh start
 module _ (n : ℕ) (T B phase : List ℕ) where
   by-admission : (a : Option ℕ) → refusal (badTable n T B phase ∷ []) ≡ none → a ≡ firstUnadmitted n T B → refusal (badTable n T B phase ∷ notAdmitted n T B ∷ []) ≡ unlessBefore 2 a none
-  unfolding refusal
-  by-admission a e d = refused-then (table-then-admission (firstBadPartition n T B phase) (firstUnadmitted n T B)) e ∙ ap (λ (u : Option ℕ). unlessBefore 2 u none) (sym d)
+  by-admission a e d =
+      refused-then (table-then-admission (firstBadPartition n T B phase) (firstUnadmitted n T B)) e ∙ admission-alone _ ∙ ap (λ (u : Option ℕ). unlessBefore 2 u none) (sym d)
 
   table-fine : refusal (badTable n T B phase ∷ []) ≡ none → n ≤ 16
   unfolding has
@@ -82,7 +85,7 @@ module _ (t : Table) (s : State) (v : Verdict) (judged : JudgedIs t s v) (r : Ch
 
   module _ (good : v ≡ verdict.Good) where
     -- the pick is a member, or not
-    allowed : (pick : ℕ) (m : Bool) → MemberIs (t .count) (t .period) (t .budget) (s .b) (s .o) pick m → m ≡ tickAllowed (t .count) (t .period) (t .budget) (s .b) (s .o) pick
+    allowed : (pick : ℕ) (m : Bool) → MemberIs (t .count) (t .period) (t .budget) (s .b) (s .o) pick m → m ≡ mayTick t s pick
     unfolding tickAllowed
     allowed pick m e =
         e ∙ ap (λ (a : Bool). has (cond a (candidates (t .count) (t .period) (t .budget) (s .b) (s .o) inversion) []) pick) (le-leb (t .count) 16 (few-of-state _ _ _ _ _ _ v judged good))

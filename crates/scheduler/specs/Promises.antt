@@ -1,17 +1,17 @@
 -- What each public function of this crate says, and promises of its answer r and the state after it.
 use Prim.Native.Nat.{ℕ}
 use mathlib.Core.Path.{_≡_}
-use mathlib.Core.List.{List, [], _∷_}
+use mathlib.Core.List.{[], _∷_}
 use mathlib.Core.Option.{Option, some, none}
+use Rattle.rules.specs.Release.{release}
+use Rattle.rules.specs.Records.{tableBad, unadmitted}
 use Rattle.rules.specs.Numbers.{Pairs}
 use Rattle.rules.specs.FreshStart.{freshStart}
-use Rattle.rules.specs.Tick.{tick}
-use Rattle.rules.specs.Release.{release}
-use Rattle.rules.specs.Refusals.{Refused, Ground, badTable, notAdmitted, badState, notListed, notActive, refusal}
+use Rattle.rules.specs.Refusals.{Refused, refusal}
 use Rattle.rules.specs.declared.Table.{Table}
-use Rattle.ranges.specs.Verdicts.{verdictAs}
-use Rattle.ranges.specs.declared.Verdict.{Verdict}
-use Rattle.scheduler.specs.States.{pairs}
+use Rattle.verdicts.specs.Verdicts.{verdictAs}
+use Rattle.verdicts.specs.declared.Verdict.{Verdict}
+use Rattle.scheduler.specs.States.{pairs, tickOf, unlisted, inactiveNow, stateBad}
 use Rattle.scheduler.specs.declared.State.{State}
 use Rattle.scheduler.specs.declared.Changed.{Changed}
 
@@ -40,40 +40,29 @@ change (some r) before after = kept before r
 -- fresh start, whatever the old state: refusals 1 and 2
 abbrev pub freshSays : Table → State → Change
 freshSays t s =
-    change (refusal (badTable (t .count) (t .period) (t .budget) (t .phase) ∷ notAdmitted (t .count) (t .period) (t .budget) ∷ []))
+    change (refusal (tableBad t ∷ unadmitted t ∷ []))
     (pairs s) (freshStart (t .count) (t .period) (t .budget) (t .phase))
 
 abbrev pub FreshIs : Table → State → Changed → Type 0
 FreshIs t s r = changedAs r ≡ freshSays t s
 
--- the tick itself, over lent pairs b and o, which are `bs` and `os` after it
-abbrev pub PassTickIs : ℕ → List ℕ → List ℕ → List ℕ → List ℕ → ℕ → List ℕ → List ℕ → Type 0
-PassTickIs n T B b o pick bs os = _≡_ {A = Pairs} (record { b = bs; o = os }) (tick n T B b o pick)
-
 module _ (t : Table) (s : State) where
-  -- the grounds that every call over a state has: refusals 1 and 3
-  abbrev pub table : Ground
-  table = badTable (t .count) (t .period) (t .budget) (t .phase)
-
-  abbrev pub state : Ground
-  state = badState (t .count) (t .period) (t .budget) (s .b) (s .o)
-
   -- why the state is refused over the table, if it is: 1 and 3
   abbrev pub JudgedIs : Verdict → Type 0
-  JudgedIs r = verdictAs r ≡ refusal (table ∷ state ∷ [])
+  JudgedIs r = verdictAs r ≡ refusal (tableBad t ∷ stateBad t s ∷ [])
 
   -- a tick for a given pick: refusals 1, 3 and 5
   abbrev pub tickSays : ℕ → Change
   tickSays pick =
-      change (refusal (table ∷ state ∷ notListed (t .count) (t .period) (t .budget) (s .b) (s .o) pick ∷ []))
-      (pairs s) (tick (t .count) (t .period) (t .budget) (s .b) (s .o) pick)
+      change (refusal (tableBad t ∷ stateBad t s ∷ unlisted t s pick ∷ []))
+      (pairs s) (tickOf t s pick)
 
   abbrev pub TickIs : ℕ → Changed → Type 0
   TickIs pick r = changedAs r ≡ tickSays pick
 
   -- a release: refusals 1, 3 and 6
   abbrev pub releaseSays : ℕ → Change
-  releaseSays i = change (refusal (table ∷ state ∷ notActive (t .count) (s .b) i ∷ [])) (pairs s) (release (s .b) (s .o) i)
+  releaseSays i = change (refusal (tableBad t ∷ stateBad t s ∷ inactiveNow t s i ∷ [])) (pairs s) (release (s .b) (s .o) i)
 
   abbrev pub ReleaseIs : ℕ → Changed → Type 0
   ReleaseIs i r = changedAs r ≡ releaseSays i

@@ -1,19 +1,18 @@
 // The scheduler's state, and what changes it: fresh start, tick and release.
 ghost use mathlib.Core.Path.{_≡_};
 ghost use Prim.Native.Nat.{_≤_};
-ghost use lib.ListN as Seq;
 ghost use Rattle.rules.specs.FreshStart.{freshStart};
-ghost use Rattle.rules.specs.Tick.{spend};
 ghost use Rattle.rules.specs.Refusals.{refusedAs};
-ghost use Rattle.scheduler.specs.States.{pairs, paired, PassTimeIs};
-ghost use Rattle.scheduler.specs.Promises.{changedAs, kept, made, FreshIs, JudgedIs, PassTickIs, TickIs, ReleaseIs};
+ghost use Rattle.scheduler.specs.States.{pairs};
+ghost use Rattle.scheduler.specs.Promises.{changedAs, kept, made, FreshIs, JudgedIs, TickIs, ReleaseIs};
 use candidates::member;
-use ranges::Verdict;
-use ranges::judge;
+use pairs::judge;
 use rules::Refusal;
 use rules::Table;
 use standing::Test;
 use standing::admission;
+use ticks::pass_tick;
+use verdicts::Verdict;
 
 // The sixteen pairs: what is left of each budget, and the ticks until it comes again. Pairs beyond the table are 0, 0.
 #[repr(C)]
@@ -45,69 +44,6 @@ fn fresh_start(t: Table) -> State
         }
     }
     State { b, o }
-}
-
-// A picked partition loses one of b. Idle stands beyond the sixteen. A slice's length is known in the proof, an array's behind a reference is not.
-fn spend_one(b: &mut [u16], pick: usize)
-    requires { ⌜ Seq.length (now b) ≡ 16 ⌝ }
-    ensures { λ _. ⌜ now (b .exit) ≡ spend (now (b .entry)) pick ⌝ }
-{
-    if pick >= 16 {
-        return;
-    }
-    let left = b[pick];
-    if left == 0 {
-        return;
-    }
-    b[pick] = left - 1;
-}
-
-// How many of `n` partitions have a pair, of which there are sixteen.
-fn paired(n: usize, o: &[u16]) -> usize
-    ensures { λ r. ⌜ r ≡ paired n (Seq.length (now (o .entry))) ⌝ }
-{
-    if n > o.len() {
-        return o.len();
-    }
-    n
-}
-
-// Time passes for each of `n` partitions: o falls by 1, and where it reaches 0, b becomes B and o becomes T.
-fn pass_time<'t>(
-    n: usize,
-    period: &'t [u16; 16],
-    budget: &'t [u16; 16],
-    b: &mut [u16; 16],
-    o: &mut [u16; 16],
-)
-    requires { ⌜ n ≤ 16 ⌝ }
-    ensures { λ _. ⌜ PassTimeIs n (now (period .entry)) (now (budget .entry)) (now (b .entry)) (now (o .entry)) (now (b .exit)) (now (o .exit)) ⌝ }
-{
-    for i in 0..n {
-        let next = o[i];
-        if next > 1 {
-            o[i] = next - 1;
-        } else {
-            b[i] = budget[i];
-            o[i] = period[i];
-        }
-    }
-}
-
-// A tick over lent pairs: the pick loses one of b, then time passes for each of `n` partitions. There are sixteen pairs, whatever the count.
-pub fn pass_tick<'t>(
-    n: usize,
-    period: &'t [u16; 16],
-    budget: &'t [u16; 16],
-    b: &mut [u16; 16],
-    o: &mut [u16; 16],
-    pick: usize,
-)
-    ensures { λ _. ⌜ PassTickIs n (now (period .entry)) (now (budget .entry)) (now (b .entry)) (now (o .entry)) pick (now (b .exit)) (now (o .exit)) ⌝ }
-{
-    spend_one(b, pick);
-    let most = paired(n, o);
-    pass_time(most, period, budget, b, o);
 }
 
 impl State {

@@ -9,18 +9,20 @@ use borrow.Author.Tests.{lt-ltb}
 use Rattle.basis.specs.Words.{first, found}
 use Rattle.rules.specs.Numbers.{TableInRange}
 use Rattle.rules.specs.Admission.{responseWithin, firstUnadmitted}
-use Rattle.rules.specs.BusyLength.{busyTest, passes}
+use Rattle.rules.specs.BusyLength.{busyLength, passes}
 use Rattle.rules.specs.StandingTest.{firstFailing}
 use Rattle.rules.specs.Refusals.{ground, badTable, badTableOrIndex, refusal}
 use Rattle.laws.proofs.Places.{first-same}
 use Rattle.laws.proofs.Numbers.{table-good}
 use Rattle.laws.proofs.Admission.{admission-is-busy}
 use Rattle.laws.proofs.Refusals.{table-then-state}
-use Rattle.ranges.specs.Outcome.{Outcome, gives, unlessRefused}
-use Rattle.ranges.specs.Verdicts.{verdictAs}
-use Rattle.ranges.specs.declared.Verdict.{Verdict}
-use Rattle.ranges.specs.declared.Verdict.the-variants.{Good}
-use Rattle.ranges.proofs.Outcomes.{not-refused, answers-second, table-in-range, indexed-table, indexed-there, few-partitions}
+use Rattle.verdicts.specs.Outcome.{Outcome, gives, unlessRefused}
+use Rattle.verdicts.specs.Verdicts.{verdictAs}
+use Rattle.verdicts.specs.declared.Verdict.{Verdict}
+use Rattle.verdicts.specs.declared.Verdict.the-variants.{Good}
+use Rattle.verdicts.proofs.Outcomes.{not-refused, answers-second}
+use Rattle.ranges.proofs.Good.{table-in-range, indexed-table, indexed-there, few-partitions}
+use Rattle.laws.proofs.BusyLength.{passes-found}
 use Rattle.busy.specs.Spans.{spanAs}
 use Rattle.busy.specs.Promises.{BusyLengthIs, PassesIs}
 use Rattle.busy.specs.declared.Span.{Span}
@@ -37,14 +39,14 @@ module _ (n : ℕ) (T B b o : List ℕ) where
 
 module _ (n : ℕ) (T B phase : List ℕ) where
   -- ---- admission is the standing test of full budgets
-  in-range-response : TableInRange n T B phase → (h : ℕ) → h < n → busyTest T B B T h 0 ≡ responseWithin T B h
+  in-range-response : TableInRange n T B phase → (h : ℕ) → h < n → busyLength T B B T h 0 ≡ responseWithin T B h
   in-range-response t h l =
       let table = table-good n T B phase t in
       admission-is-busy T B h (table .each h l .budget) (λ j k. table .each j (omega arith) .period)
 
   admission-stands : TableInRange n T B phase → firstFailing n T B B T ≡ firstUnadmitted n T B
-  unfolding firstFailing firstUnadmitted passes
-  admission-stands t = first-same n _ _ (λ h l. ap (λ (x : Option ℕ). not (found x)) (in-range-response t h l))
+  unfolding firstFailing firstUnadmitted
+  admission-stands t = first-same n _ _ (λ h l. ap not (passes-found T B B T h 0 ∙ ap found (in-range-response t h l)))
 
   pub admits : (answer : Outcome (Option ℕ)) (v : Verdict) → verdictAs v ≡ refusal (badTable n T B phase ∷ []) → v ≡ Good → answer ≡ gives (firstFailing n T B B T)
       → answer ≡ unlessRefused (refusal (badTable n T B phase ∷ [])) (firstUnadmitted n T B)
@@ -53,8 +55,8 @@ module _ (n : ℕ) (T B phase : List ℕ) where
 
   -- ---- and R is that test's length
   module _ (h : ℕ) (v : Verdict) (e : verdictAs v ≡ refusal (badTableOrIndex n T B phase h ∷ [])) (d : v ≡ Good) where
-    spanned : (b o : List ℕ) (w : ℕ) (x : Span) → BusyLengthIs T B b o h w x → spanAs x ≡ busyTest T B b o h w
-    spanned b o w x length = length ∙ ap (λ (a : Bool). cond a (busyTest T B b o h w) none) (lt-ltb h 16 index-small)
+    spanned : (b o : List ℕ) (w : ℕ) (x : Span) → BusyLengthIs T B b o h w x → spanAs x ≡ busyLength T B b o h w
+    spanned b o w x length = length ∙ ap (λ (a : Bool). cond a (busyLength T B b o h w) none) (lt-ltb h 16 index-small)
       where
         index-small : h < 16
         index-small =
@@ -70,9 +72,9 @@ module _ (n : ℕ) (T B phase : List ℕ) where
           ∙ sym (not-refused (responseWithin T B h) _ v e d)
 
       pub tested-busy : (b o : List ℕ) (w : ℕ) (y : Option ℕ) (s : Verdict) → verdictAs s ≡ refusal (ground 3 y ∷ []) → s ≡ Good → BusyLengthIs T B b o h w x
-          → answer ≡ unlessRefused (refusal (badTableOrIndex n T B phase h ∷ ground 3 y ∷ [])) (busyTest T B b o h w)
+          → answer ≡ unlessRefused (refusal (badTableOrIndex n T B phase h ∷ ground 3 y ∷ [])) (busyLength T B b o h w)
       tested-busy b o w y s f g length =
-          answers-second (busyTest T B b o h w) (table-then-state _ y) v e d s f answer g (same ∙ ap gives (spanned b o w x length))
+          answers-second (busyLength T B b o h w) (table-then-state _ y) v e d s f answer g (same ∙ ap gives (spanned b o w x length))
 
 -- a span as an answer
 pub answered-within : (x : Span) (W : ℕ) → x ≡ Within W → gives (some W) ≡ gives (spanAs x)

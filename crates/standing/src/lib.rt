@@ -2,20 +2,20 @@
 ghost use mathlib.Core.Path.{_≡_};
 ghost use Prim.Native.Nat.{_≤_};
 ghost use Rattle.rules.specs.StandingTest.{firstFailing};
-ghost use Rattle.ranges.specs.Outcome.{gives};
+ghost use Rattle.verdicts.specs.Outcome.{gives};
 ghost use Rattle.busy.specs.Spans.{spanAs};
 ghost use Rattle.standing.specs.Answers.{testAs, lengthAs};
 ghost use Rattle.standing.specs.Promises.{AdmissionIs, ResponseIs, BusyTestIs, StandingIs};
 use busy::Span;
 use busy::busy_length;
 use busy::passes;
-use ranges::Verdict;
-use ranges::judge;
+use pairs::judge;
+use pairs::judge_state;
 use ranges::judge_index;
-use ranges::judge_state;
 use ranges::judge_table;
 use rules::Refusal;
 use rules::Table;
+use verdicts::Verdict;
 
 // Whether all partitions pass, or which is the first that fails.
 pub enum Test {

@@ -13,9 +13,9 @@ use Rattle.rules.specs.declared.Refusal.{Refusal}
 use Rattle.rules.specs.declared.Refusal.the-variants.{BadTask}
 use Rattle.laws.proofs.Tests.{is-within}
 use Rattle.laws.proofs.Refusals.{tasks-alone}
-use Rattle.ranges.specs.declared.Verdict.{Verdict}
-use Rattle.ranges.specs.declared.Verdict.the-variants as verdict
-use Rattle.ranges.proofs.Verdicts.{says-bad, says-good, judged-fields, judged-absent, judged-there, asked-good}
+use Rattle.verdicts.specs.declared.Verdict.{Verdict}
+use Rattle.verdicts.specs.declared.Verdict.the-variants as verdict
+use Rattle.verdicts.proofs.Verdicts.{says-bad, says-good, judged-fields, judged-absent, judged-there, asked-good}
 use Rattle.tasks.specs.Promises.{JudgeTasksIs, JudgeTaskIs}
 
 -- ---- the tests of one task

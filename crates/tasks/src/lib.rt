@@ -2,8 +2,8 @@
 ghost use mathlib.Core.Path.{_≡_};
 ghost use Rattle.rules.specs.Numbers.{taskInRange};
 ghost use Rattle.tasks.specs.Promises.{JudgeTasksIs, JudgeTaskIs};
-use ranges::Verdict;
 use rules::Refusal;
+use verdicts::Verdict;
 
 // A task names one of the `n` partitions. A gap is at most 65,535 by its type.
 fn task_in_range(n: usize, partition: u16, gap: u16, cost: u16) -> bool

@@ -3,7 +3,8 @@ use Prim.Native.Nat.{ℕ}
 use mathlib.Core.Path.{_≡_, refl, sym, _∙_, ap}
 use mathlib.Core.List.{List, [], _∷_}
 use mathlib.Core.Option.{Option, some}
-use Rattle.rules.specs.Refusals.{Refused, refusedAs, badTable, badTasks, notAdmitted, refusal}
+use Rattle.rules.specs.Records.{unadmitted, tablesBad}
+use Rattle.rules.specs.Refusals.{Refused, refusedAs, refusal}
 use Rattle.file_rules.specs.MeterFile.{refusalOf}
 use Rattle.rules.specs.declared.Refusal.{Refusal}
 use Rattle.rules.specs.declared.Refusal.the-variants.{NotAdmitted}
@@ -11,12 +12,12 @@ use Rattle.rules.specs.declared.Table.{Table}
 use Rattle.rules.specs.declared.Tasks.{Tasks}
 use Rattle.laws.proofs.Tests.{none-is-some}
 use Rattle.laws.proofs.Refusals.{file-first, table-first, tasks-then-admission, admission-alone}
-use Rattle.ranges.specs.Verdicts.{verdictAs}
-use Rattle.ranges.specs.declared.Verdict.{Verdict}
-use Rattle.ranges.specs.declared.Verdict.the-variants as verdict
+use Rattle.verdicts.specs.Verdicts.{verdictAs}
+use Rattle.verdicts.specs.declared.Verdict.{Verdict}
+use Rattle.verdicts.specs.declared.Verdict.the-variants as verdict
 use Rattle.ranges.specs.Promises.{JudgeTableIs}
-use Rattle.ranges.proofs.Verdicts.{verdict-refused, verdict-good, says-bad, says-good, judged-early, judged-later, refused-early, left-to-others}
-use Rattle.ranges.proofs.Outcomes.{was-refused, was-given}
+use Rattle.verdicts.proofs.Verdicts.{verdict-refused, verdict-good, says-bad, says-good, judged-early, judged-later, refused-early, left-to-others}
+use Rattle.verdicts.proofs.Outcomes.{was-refused, was-given}
 use Rattle.tasks.specs.Promises.{JudgeTasksIs}
 use Rattle.standing.specs.Answers.{testAs}
 use Rattle.standing.specs.Promises.{AdmissionIs}
@@ -41,7 +42,7 @@ module _ (t : Table) (k : Tasks) (v : Verdict) (e : JudgeTableIs (t .count) (t .
     held-tasks-bad q d = judged-later (table-first _ _ _) v e (verdict.Refused q) good (judged-early (tasks-then-admission _ _) w f q d)
 
     module _ (fine : w ≡ verdict.Good) (r : Test) (g : AdmissionIs t r) where
-      last : (u : Verdict) → verdictAs u ≡ refusal (notAdmitted (t .count) (t .period) (t .budget) ∷ []) → JudgeHeldIs t k u
+      last : (u : Verdict) → verdictAs u ≡ refusal (unadmitted t ∷ []) → JudgeHeldIs t k u
       last u h = judged-later (table-first _ _ _) v e u good (judged-later (tasks-then-admission _ _) w f u fine h)
 
       pub held-refused : (q : Refusal) → r ≡ test.Refused q → JudgeHeldIs t k (verdict.Refused q)
@@ -81,12 +82,7 @@ module _ (file : List ℕ) where
           ∙ sym (left-to-others (file-first _ _ _ _) (r .verdict) (loaded .judged) good)
         where
           tables : Table → Tasks → Option Refused
-          tables t k =
-              refusal
-              (badTable (t .count) (t .period) (t .budget) (t .phase)
-              ∷ badTasks (t .count) (k .count) (k .partition) (k .gap) (k .cost)
-              ∷ notAdmitted (t .count) (t .period) (t .budget)
-              ∷ [])
+          tables t k = refusal (tablesBad t k)
 
       pub file-refused : (q : Refusal) → v ≡ verdict.Refused q → (f : MeterFile) → judgedAs f ≡ refusedFile (refusedAs q) → JudgeFileIs file f
       file-refused q d f e = e ∙ refused-as q (sym against ∙ verdict-refused v q d)

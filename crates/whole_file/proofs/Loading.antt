@@ -19,9 +19,9 @@ use Rattle.laws.proofs.Tests.{below-or-not, none-is-some}
 use Rattle.laws.proofs.Refusals.{file-alone}
 use Rattle.file_laws.proofs.MeterFile.{over-limit, no-record, a-record, payload-is, Whole, record-whole, Kind, partition, task, word, release, known-kind}
 use Rattle.file_laws.proofs.Records.{read-on, read-stops, read-ends, reading-small, reading-large, of-kind-this, of-kind-other, of-kind-few, column-next, field-at, event-kind, no-events-more, events-begin}
-use Rattle.ranges.specs.Verdicts.{verdictAs}
-use Rattle.ranges.specs.declared.Verdict.the-variants as verdict
-use Rattle.ranges.proofs.Verdicts.{verdict-good}
+use Rattle.verdicts.specs.Verdicts.{verdictAs}
+use Rattle.verdicts.specs.declared.Verdict.the-variants as verdict
+use Rattle.verdicts.proofs.Verdicts.{verdict-good}
 use Rattle.meter.specs.Forms.{whyNot}
 use Rattle.meter.specs.Promises.{ReadRecordIs, PayloadIs, WhyRefusedIs}
 use Rattle.meter.proofs.Records.{Told, told-refused}

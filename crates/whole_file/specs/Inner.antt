@@ -6,14 +6,15 @@ use mathlib.Core.Option.{some}
 use mathlib.Core.Path.{_≡_}
 use lib.Dec.{eqb}
 use lib.ListN.{length, set, replicate}
+use Rattle.rules.specs.Records.{tablesBad}
 use Rattle.rules.specs.Numbers.{mostPartitions, mostTasks}
-use Rattle.rules.specs.Refusals.{Refused, malformed, badTable, badTasks, notAdmitted, refusal}
+use Rattle.rules.specs.Refusals.{Refused, malformed, refusal}
 use Rattle.file_rules.specs.MeterFile.{two, meterKinds, reading, tableOf, tasksOf, eventsIn, beginning}
 use Rattle.rules.specs.declared.Table.{Table}
 use Rattle.rules.specs.declared.Tasks.{Tasks}
-use Rattle.ranges.specs.Verdicts.{verdictAs}
-use Rattle.ranges.specs.declared.Verdict.{Verdict}
-use Rattle.ranges.specs.declared.Verdict.the-variants as verdict
+use Rattle.verdicts.specs.Verdicts.{verdictAs}
+use Rattle.verdicts.specs.declared.Verdict.{Verdict}
+use Rattle.verdicts.specs.declared.Verdict.the-variants as verdict
 use Rattle.whole_file.specs.declared.Held.{Held}
 use Rattle.whole_file.specs.declared.MeterFile.{MeterFile}
 
@@ -64,9 +65,4 @@ pub record LoadIs (file : List ℕ) (r : MeterFile) : Type 0 where
 
 -- the tables: refusals 1, 9 and 2
 abbrev pub JudgeHeldIs : Table → Tasks → Verdict → Type 0
-JudgeHeldIs t k r =
-    verdictAs r ≡ refusal
-    (badTable (t .count) (t .period) (t .budget) (t .phase)
-    ∷ badTasks (t .count) (k .count) (k .partition) (k .gap) (k .cost)
-    ∷ notAdmitted (t .count) (t .period) (t .budget)
-    ∷ [])
+JudgeHeldIs t k r = verdictAs r ≡ refusal (tablesBad t k)

@@ -8,7 +8,7 @@ use Rattle.rules.specs.Refusals.{Refused}
 use Rattle.file_rules.specs.MeterFile.{tableOf, tasksOf, eventsIn, beginning, refusalOf}
 use Rattle.rules.specs.declared.Table.{Table}
 use Rattle.rules.specs.declared.Tasks.{Tasks}
-use Rattle.ranges.specs.Verdicts.{verdictAs}
+use Rattle.verdicts.specs.Verdicts.{verdictAs}
 use Rattle.whole_file.specs.Inner.{noTable, noTasks}
 use Rattle.whole_file.specs.declared.MeterFile.{MeterFile}
 

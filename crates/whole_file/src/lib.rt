@@ -9,7 +9,6 @@ use meter::Read;
 use meter::payload;
 use meter::read_record;
 use meter::why_refused;
-use ranges::Verdict;
 use ranges::judge_table;
 use rules::Refusal;
 use rules::Table;
@@ -17,6 +16,7 @@ use rules::Tasks;
 use standing::Test;
 use standing::admission;
 use tasks::judge_tasks;
+use verdicts::Verdict;
 
 // What a meter file holds: its partitions, its tasks, and where its first word or release begins, or its end. On a refusal all of that is 0.
 pub struct MeterFile {

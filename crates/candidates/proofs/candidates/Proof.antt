@@ -1,5 +1,5 @@
 use borrow.Author.Needs.{needs}
-use Rattle.ranges.proofs.Outcomes.{few-of-state}
+use Rattle.pairs.proofs.Good.{few-of-state}
 use Rattle.candidates.proofs.Calls.{list-refused, list-given}
 use Rattle.candidates.proofs.candidates.Statement.{statement}
 use Rattle.candidates.proofs.candidates.Tie as tie

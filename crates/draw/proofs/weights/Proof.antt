@@ -1,5 +1,5 @@
 use borrow.Author.Needs.{needs}
-use Rattle.ranges.proofs.Outcomes.{few-of-state}
+use Rattle.pairs.proofs.Good.{few-of-state}
 use Rattle.draw.proofs.Calls.{usable, weights-refused, weights-given}
 use Rattle.draw.proofs.weights.Statement.{statement}
 use Rattle.draw.proofs.weights.Tie as tie

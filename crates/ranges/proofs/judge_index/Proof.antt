@@ -1,5 +1,5 @@
 use borrow.Author.Needs.{needs}
-use Rattle.ranges.proofs.Verdicts.{table-refused, partition-absent, partition-there}
+use Rattle.ranges.proofs.Steps.{table-refused, partition-absent, partition-there}
 use Rattle.ranges.proofs.judge_index.Statement.{statement}
 use Rattle.ranges.proofs.judge_index.Tie as tie
 

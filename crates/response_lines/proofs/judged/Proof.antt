@@ -1,5 +1,5 @@
 use Rattle.laws.proofs.Refusals.{table-then-tasks}
-use Rattle.ranges.proofs.Verdicts.{judged-early, judged-later}
+use Rattle.verdicts.proofs.Verdicts.{judged-early, judged-later}
 use borrow.Author.Needs.{needs}
 use Rattle.response_lines.proofs.judged.Statement.{statement}
 use Rattle.response_lines.proofs.judged.Tie as tie

@@ -1,6 +1,6 @@
 use borrow.Author.Needs.{needs}
 use Rattle.laws.proofs.Refusals.{table-then-tasks}
-use Rattle.ranges.proofs.Outcomes.{hands-on-first, hands-on-second}
+use Rattle.verdicts.proofs.Outcomes.{hands-on-first, hands-on-second}
 use Rattle.responses.proofs.Calls.{ready, responds}
 use Rattle.responses.proofs.task_response.Statement.{statement}
 use Rattle.responses.proofs.task_response.Tie as tie

@@ -1,4 +1,4 @@
-use Rattle.ranges.proofs.Outcomes.{few-of-state}
+use Rattle.pairs.proofs.Good.{few-of-state}
 use Rattle.runs.proofs.Calls.{run-refused, run-short, run-made}
 use borrow.Author.Needs.{needs}
 use Rattle.runs.proofs.run.Statement.{statement}

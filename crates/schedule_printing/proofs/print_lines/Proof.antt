@@ -1,16 +1,13 @@
-use Prim.Native.Nat.{_+_}
-use mathlib.Core.Path.{ap, _∙_}
-use Rattle.schedule_printing.proofs.Schedule.{run-begins, within}
+use Prim.Native.Nat.{_+_, _≤_}
+use mathlib.Core.Path.{ap, _∙_, sym}
+use Rattle.schedule_printing.proofs.Schedule.{run-begins, within, Running, counted, refused-counted}
 use native.Mathlib.Omega.{arith}
-use Prim.Native.Nat.{_≤_}
-use mathlib.Core.Path.{sym}
 use lib.ListN.{length}
 use native.Mathlib.Nat.{le-refl}
 use lib.Seq.{length-take-le}
 use Rattle.scheduler.specs.States.{pairs}
 use Rattle.schedule_lines.specs.declared.Cursor.the-variants.{Header}
 use Rattle.outputs.specs.ScheduleMoments.{toWrite, left}
-use Rattle.schedule_printing.proofs.Schedule.{Running, counted, refused-counted}
 use borrow.Author.Needs.{needs}
 use Rattle.schedule_printing.proofs.print_lines.Statement.{statement}
 use Rattle.schedule_printing.proofs.print_lines.Tie as tie

@@ -2,7 +2,7 @@ use borrow.Author.Needs.{needs}
 use Prim.Native.Nat.{_-_, _≤_}
 use mathlib.Core.Logic.{⊎-elim}
 use native.Mathlib.Omega.{arith}
-use Rattle.scheduler.proofs.Pairs.{FreshTo, fresh-begins, fresh-whole, fresh-waits, fresh-ends}
+use Rattle.scheduler.proofs.Fresh.{FreshTo, fresh-begins, fresh-whole, fresh-waits, fresh-ends}
 use Rattle.scheduler.proofs.fresh_start.Statement.{statement}
 use Rattle.scheduler.proofs.fresh_start.Tie as tie
 

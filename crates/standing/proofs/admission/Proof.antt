@@ -1,5 +1,6 @@
 use borrow.Author.Needs.{needs}
-use Rattle.ranges.proofs.Outcomes.{hands-on, few-of-table}
+use Rattle.verdicts.proofs.Outcomes.{hands-on}
+use Rattle.ranges.proofs.Good.{few-of-table}
 use Rattle.standing.proofs.Tests.{admits}
 use Rattle.standing.proofs.admission.Statement.{statement}
 use Rattle.standing.proofs.admission.Tie as tie

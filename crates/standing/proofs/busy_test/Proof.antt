@@ -1,6 +1,6 @@
 use borrow.Author.Needs.{needs}
 use Rattle.laws.proofs.Refusals.{table-then-state}
-use Rattle.ranges.proofs.Outcomes.{hands-on-first, hands-on-second}
+use Rattle.verdicts.proofs.Outcomes.{hands-on-first, hands-on-second}
 use Rattle.standing.proofs.Tests.{tested-busy}
 use Rattle.standing.proofs.busy_test.Statement.{statement}
 use Rattle.standing.proofs.busy_test.Tie as tie

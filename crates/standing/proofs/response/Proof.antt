@@ -1,5 +1,5 @@
 use borrow.Author.Needs.{needs}
-use Rattle.ranges.proofs.Outcomes.{hands-on}
+use Rattle.verdicts.proofs.Outcomes.{hands-on}
 use Rattle.standing.proofs.Tests.{responds}
 use Rattle.standing.proofs.response.Statement.{statement}
 use Rattle.standing.proofs.response.Tie as tie

@@ -1,5 +1,6 @@
 use borrow.Author.Needs.{needs}
-use Rattle.ranges.proofs.Outcomes.{hands-on, answers, few-of-state}
+use Rattle.verdicts.proofs.Outcomes.{hands-on, answers}
+use Rattle.pairs.proofs.Good.{few-of-state}
 use Rattle.standing.proofs.standing.Statement.{statement}
 use Rattle.standing.proofs.standing.Tie as tie
 

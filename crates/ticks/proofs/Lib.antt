@@ -1,0 +1,2 @@
+-- the loop over the pairs, and the tick that it is a part of
+pub mod Passing
