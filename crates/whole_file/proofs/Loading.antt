@@ -8,10 +8,10 @@ use mathlib.Core.Option.{Option, some, none}
 use native.Mathlib.Nat.{le-refl, lt-of-le-of-lt, zero-add, lt-irrefl, le-antisymm}
 use native.Mathlib.Omega.{arith}
 use borrow.Author.Tests.{eqb-true}
-use lib.ListN.{length, length-append}
+use lib.ListN.{set, length, length-append}
 use Rattle.basis.specs.Words.{padded}
 use Rattle.rules.specs.Refusals.{refusedAs, malformed, refusal}
-use Rattle.file_rules.specs.MeterFile.{mostBytes, two, lengthAt, kindAt, nextAt, meterKinds, form, isRecord, malformedAt, Record, Reading, andThen, readFrom, reading, ofKind, tableFrom, tasksFrom, isEvent, eventsOf, beginning, tableOf, tasksOf, eventsIn}
+use Rattle.file_rules.specs.MeterFile.{column, mostBytes, two, lengthAt, kindAt, nextAt, meterKinds, form, isRecord, malformedAt, Record, Reading, andThen, readFrom, reading, ofKind, tableFrom, tasksFrom, isEvent, eventsOf, beginning, tableOf, tasksOf, eventsIn}
 use Rattle.rules.specs.declared.Refusal.{Refusal}
 use Rattle.rules.specs.declared.Table.{Table}
 use Rattle.rules.specs.declared.Tasks.{Tasks}
@@ -148,31 +148,35 @@ module _ (file : List ℕ) where
             ap (λ (xs : List ℕ). two xs i) (part-is ∙ sym (payload-is meterKinds before file at (told .sound)))
             ∙ field-at file at (lengthAt file at - 2) i past e (omega (arith, f, long))
 
+        -- a record of a table, by its kind: no events before it, and each field in its column
+        module _ (k : ℕ) (e : k ≡ kindAt file at) (small : form k .place < 3) (other : isEvent k ≡ false) (eight : form k .length ≡ 8) where
+          nothing : eventsOf more ≡ []
+          nothing = none-yet (subst (λ (x : ℕ). form x .place < 3) e small) (subst (λ (x : ℕ). isEvent x ≡ false) e other)
+
+          in-column : (places : ℕ) (os : List ℕ) (i past : ℕ) → past ≡ 4 + i → i + 2 ≤ 6
+              → set (column places file past os) (length os) (two part i) ≡ column places file past (os ++ at ∷ [])
+          in-column places os i past is fits =
+              column-next places file past os at (two part i) (field (whole .long ∙ ap (λ (x : ℕ). form x .length) (sym e) ∙ eight) i past is fits)
+
         kind-1 : 1 ≡ kindAt file at → UpTo (withRecord held 1 part next) 1 next
         unfolding form
         kind-1 e =
             step 1 e (withRecord held 1 part next)
             (ap (λ (t : Table). withPartition t part) (here .table) ∙ row (ofKind 1 (here .done)) ∙ ap (tableFrom file) (sym (of-kind-this 1 (here .done) this (sym e))))
             (here .tasks ∙ ap (tasksFrom file) (sym (of-kind-other 2 (here .done) this (λ d. absurd (differ (e ∙ d))))))
-            (sym (ap (λ (rs : List Record). beginning rs next) nothing))
-            (λ s. nothing)
+            (sym (ap (λ (rs : List Record). beginning rs next) (nothing 1 e (omega arith) refl refl)))
+            (λ s. nothing 1 e (omega arith) refl refl)
           where
             differ : _≡_ {A = ℕ} 1 2 → ⊥
             differ d = omega (arith, d)
-
-            nothing : eventsOf more ≡ []
-            nothing = none-yet (subst (λ (k : ℕ). form k .place < 3) e (omega arith)) (subst (λ (k : ℕ). isEvent k ≡ false) e refl)
-
-            long : lengthAt file at ≡ 8
-            long = whole .long ∙ ap (λ (k : ℕ). form k .length) (sym e)
 
             row : (os : List ℕ) → withPartition (tableFrom file os) part ≡ tableFrom file (os ++ at ∷ [])
             row os i =
                 record {
                   count = sym (length-append os (at ∷ [])) i;
-                  period = column-next 16 file 4 os at (two part 0) (field long 0 4 refl (omega arith)) i;
-                  budget = column-next 16 file 6 os at (two part 2) (field long 2 6 refl (omega arith)) i;
-                  phase = column-next 16 file 8 os at (two part 4) (field long 4 8 refl (omega arith)) i;
+                  period = in-column 1 e (omega arith) refl refl 16 os 0 4 refl (omega arith) i;
+                  budget = in-column 1 e (omega arith) refl refl 16 os 2 6 refl (omega arith) i;
+                  phase = in-column 1 e (omega arith) refl refl 16 os 4 8 refl (omega arith) i;
                 }
 
         kind-2 : 2 ≡ kindAt file at → UpTo (withRecord held 2 part next) 2 next
@@ -181,25 +185,19 @@ module _ (file : List ℕ) where
             step 2 e (withRecord held 2 part next)
             (here .table ∙ ap (tableFrom file) (sym (of-kind-other 1 (here .done) this (λ d. absurd (differ (e ∙ d))))))
             (ap (λ (k : Tasks). withTask k part) (here .tasks) ∙ row (ofKind 2 (here .done)) ∙ ap (tasksFrom file) (sym (of-kind-this 2 (here .done) this (sym e))))
-            (sym (ap (λ (rs : List Record). beginning rs next) nothing))
-            (λ s. nothing)
+            (sym (ap (λ (rs : List Record). beginning rs next) (nothing 2 e (omega arith) refl refl)))
+            (λ s. nothing 2 e (omega arith) refl refl)
           where
             differ : _≡_ {A = ℕ} 2 1 → ⊥
             differ d = omega (arith, d)
-
-            nothing : eventsOf more ≡ []
-            nothing = none-yet (subst (λ (k : ℕ). form k .place < 3) e (omega arith)) (subst (λ (k : ℕ). isEvent k ≡ false) e refl)
-
-            long : lengthAt file at ≡ 8
-            long = whole .long ∙ ap (λ (k : ℕ). form k .length) (sym e)
 
             row : (os : List ℕ) → withTask (tasksFrom file os) part ≡ tasksFrom file (os ++ at ∷ [])
             row os i =
                 record {
                   count = sym (length-append os (at ∷ [])) i;
-                  partition = column-next 64 file 4 os at (two part 0) (field long 0 4 refl (omega arith)) i;
-                  gap = column-next 64 file 6 os at (two part 2) (field long 2 6 refl (omega arith)) i;
-                  cost = column-next 64 file 8 os at (two part 4) (field long 4 8 refl (omega arith)) i;
+                  partition = in-column 2 e (omega arith) refl refl 64 os 0 4 refl (omega arith) i;
+                  gap = in-column 2 e (omega arith) refl refl 64 os 2 6 refl (omega arith) i;
+                  cost = in-column 2 e (omega arith) refl refl 64 os 4 8 refl (omega arith) i;
                 }
 
         event : (k : ℕ) → k ≡ kindAt file at → (k ≡ 1 → ⊥) → (k ≡ 2 → ⊥) → UpTo held k next
