@@ -1,2 +1,2 @@
--- the rows of the response times, counted
+-- the rows of the response times, byte for byte
 pub mod Response

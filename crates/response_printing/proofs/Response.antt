@@ -1,11 +1,10 @@
--- The rows of the response times, counted: what the buffer holds and what is still to be written make the whole.
+-- The rows of the response times, byte for byte: what the buffer holds and what is still to be written make the whole.
 use Prim.Native.Nat.{ℕ, _+_, _-_, _≤_, _<_}
 use mathlib.Core.Path.{_≡_, sym, _∙_, ap, subst}
-use mathlib.Core.List.{List}
+use mathlib.Core.List.{List, _++_, append-assoc}
 use mathlib.Core.Option.{Option, some, none}
-use native.Mathlib.Nat.{zero-add}
 use native.Mathlib.Omega.{arith}
-use lib.ListN.{length, take, drop, length-drop}
+use lib.ListN.{length, take, drop, length-append, length-drop}
 use lib.Seq.{length-take-le}
 use Rattle.rules.specs.Refusals.{refusedAs}
 use Rattle.file_rules.specs.Printers.{refusedLine, responseOutput}
@@ -23,10 +22,10 @@ use Rattle.response_lines.specs.declared.Next.{Next}
 use Rattle.response_lines.specs.declared.Next.the-variants as next
 use Rattle.response_lines.specs.declared.Made.{Made}
 use Rattle.response_lines.specs.declared.Made.the-variants as made
-use Rattle.outputs.proofs.Counting.{split-off}
+use Rattle.outputs.proofs.LineInBuffer.{partFrom, putFrom, line-added}
 use Rattle.whole_file.specs.Promises.{JudgeFileIs}
 use Rattle.whole_file.specs.declared.MeterFile.{MeterFile}
-use Rattle.response_printing.specs.Promises.{PrintResponseIs}
+use Rattle.response_printing.specs.Promises.{RowsAre, PrintResponseIs}
 use Rattle.outputs.proofs.JudgedFile.{output-refused, output-good}
 use Rattle.outputs.specs.ResponseCalls.{Call}
 use Rattle.outputs.specs.ResponseMoments.{rowsLeft, rowsToWrite, RowAt}
@@ -41,27 +40,35 @@ line-is-nothing : {A : Type 0} {c : Cursor} → next.Line c ≡ next.Nothing →
 unfolding after-line
 line-is-nothing e = some-is-none (ap after-line e)
 
-module _ (t : Table) (k : Tasks) (total : ℕ) where
+module _ (t : Table) (k : Tasks) where
+  -- what the buffer holds and what is still to be written make all the rows
   pub record Rows (c : Cursor) (used : ℕ) (buffer : List ℕ) : Type 0 where
     pub long : length buffer ≡ 8192
+    pub held : used ≤ length buffer
     pub at : RowAt t k c
-    pub sum : used + length (rowsToWrite t k c) ≡ total
+    pub all : take used buffer ++ rowsToWrite t k c ≡ rowsToWrite t k cursor.Header
 
-  module _ (c : Cursor) (used : ℕ) (buffer : List ℕ) (here : Rows c used buffer) (most : total ≤ 4224) where
-    pub rows-within : used ≤ 4224
-    rows-within = let sum = here .sum in omega (arith, sum, most)
+  module _ (c : Cursor) (used : ℕ) (buffer : List ℕ) (here : Rows c used buffer) where
+    -- there is room for what is still to be written
+    few : used + length (rowsToWrite t k c) ≤ 4224
+    few =
+        let most = little-rows t k cursor.Header (record { table = here .at .table; tasks = here .at .tasks; inside = omega arith }) in
+        let sum = sym (length-append (take used buffer) (rowsToWrite t k c)) ∙ ap length (here .all) in
+        let held = length-take-le used buffer (here .held) in
+        omega (arith, most, sum, held)
 
-    module _ (r : Made) (last : List ℕ) (is : ResponseLineIs t k c (take (length buffer - used) (drop used buffer)) r last) where
+    -- a call that is lent the buffer from a place on: that what is held ends there is asked only where the bytes matter
+    module _ (start : ℕ) (r : Made) (last : List ℕ) (is : ResponseLineIs t k c (partFrom start buffer) r last) (near : start ≤ used) where
       call : Call t k c
-      call = record { buffer = take (length buffer - used) (drop used buffer); room = fits; answer = r; last = last; is = is }
+      call = record { buffer = partFrom start buffer; room = fits; answer = r; last = last; is = is }
         where
-          fits : longestLine ≤ length (take (length buffer - used) (drop used buffer))
+          fits : longestLine ≤ length (partFrom start buffer)
           fits =
-              let rest = length-drop used buffer in
+              let rest = length-drop start buffer in
               let long = here .long in
-              let held = rows-within in
-              let all = length-take-le (length buffer - used) (drop used buffer) (omega (arith, rest)) in
-              omega (arith, rest, long, held, all)
+              let held = few in
+              let all = length-take-le (length buffer - start) (drop start buffer) (omega (arith, rest)) in
+              omega (arith, rest, long, held, near, all)
 
       -- no row is refused
       pub never-refused : {A : Type 0} (q : Refusal) → r ≡ made.Refused q → A
@@ -72,26 +79,31 @@ module _ (t : Table) (k : Tasks) (total : ℕ) where
           go (on bytes then m l d f g h) = never-both (sym d ∙ ap madeAs e)
           go (over bytes m d f g) = never-both (sym d ∙ ap madeAs e)
 
-      pub record Counted (n : ℕ) (then : Next) : Type 0 where
+      -- what a line of n bytes adds, and whether it is the last
+      pub record Added (n : ℕ) (then : Next) : Type 0 where
         pub fits : used + n ≤ 4224
-        pub last-one : then ≡ next.Nothing → used + n ≡ total
-        pub goes-on : (after : Cursor) → then ≡ next.Line after → (other : List ℕ) → length other ≡ 8192 → Rows after (used + n) other
+        pub last-one : then ≡ next.Nothing → start ≡ used → length (putFrom start buffer last) ≡ length buffer → RowsAre t k (putFrom start buffer last) (used + n)
+        pub goes-on : (after : Cursor) → then ≡ next.Line after → start ≡ used → length (putFrom start buffer last) ≡ length buffer → Rows after (used + n) (putFrom start buffer last)
         pub nearer : (after : Cursor) → then ≡ next.Line after → rowsLeft k after < rowsLeft k c
 
-      pub counted : (n : ℕ) (then : Next) → r ≡ made.Line n then → Counted n then
+      pub added : (n : ℕ) (then : Next) → r ≡ made.Line n then → Added n then
       unfolding call
-      counted n then e = go (row-went t k c call (here .at))
+      added n then e = go (row-went t k c call (here .at))
         where
-          go : RowWent t k c call → Counted n then
+          go : RowWent t k c call → Added n then
           go (on bytes further m l d f g h) =
               record {
-                fits = omega (arith, split, most);
-                last-one = λ p. line-is-nothing (sym then-is ∙ p);
-                goes-on = λ after p other long.
+                fits = fits;
+                last-one = λ p there same-long. line-is-nothing (sym then-is ∙ p);
+                goes-on = λ after p there same-long.
+                    let long = here .long in
                     record {
-                      long = long;
+                      long = same-long ∙ long;
+                      held = omega (arith, fits, same-long, long);
                       at = subst (RowAt t k) (same-cursor (sym then-is ∙ p)) h;
-                      sum = subst (λ (x : Cursor). used + n + length (rowsToWrite t k x) ≡ total) (same-cursor (sym then-is ∙ p)) split;
+                      all =
+                          subst (λ (x : Cursor). take (used + n) (putFrom start buffer last) ++ rowsToWrite t k x ≡ rowsToWrite t k cursor.Header)
+                          (same-cursor (sym then-is ∙ p)) (whole there);
                     };
                 nearer = λ after p. subst (λ (x : Cursor). rowsLeft k x < rowsLeft k c) (same-cursor (sym then-is ∙ p)) l;
               }
@@ -105,13 +117,29 @@ module _ (t : Table) (k : Tasks) (total : ℕ) where
               same-cursor : {after : Cursor} → next.Line further ≡ next.Line after → further ≡ after
               same-cursor p = cc
 
-              split : used + n + length (rowsToWrite t k further) ≡ total
-              split = split-off used n total bytes (rowsToWrite t k further) (rowsToWrite t k c) (ap (λ (x : OneLine). x .length) same) g (here .sum)
+              count : n ≡ length bytes
+              count = ap (λ (x : OneLine). x .length) same
+
+              fits : used + n ≤ 4224
+              fits =
+                  let all = few in
+                  let sum = ap length g ∙ length-append bytes (rowsToWrite t k further) in
+                  let long = count in
+                  omega (arith, all, sum, long)
+
+              whole : start ≡ used → take (used + n) (putFrom start buffer last) ++ rowsToWrite t k further ≡ rowsToWrite t k cursor.Header
+              whole there =
+                  ap (λ (x : List ℕ). x ++ rowsToWrite t k further) (line-added start used n bytes buffer last there (here .held) count f)
+                  ∙ append-assoc (take used buffer) bytes (rowsToWrite t k further)
+                  ∙ ap (λ (x : List ℕ). take used buffer ++ x) (sym g)
+                  ∙ here .all
           go (over bytes m d f g) =
               record {
-                fits = subst (λ (x : ℕ). x ≤ 4224) (sym all) most;
-                last-one = λ p. all;
-                goes-on = λ after p other long. line-is-nothing (sym p ∙ then-is);
+                fits = fits;
+                last-one = λ p there same-long.
+                    let long = here .long in
+                    (omega (arith, fits, same-long, long), line-added start used n bytes buffer last there (here .held) count f ∙ ap (λ (x : List ℕ). take used buffer ++ x) (sym g) ∙ here .all);
+                goes-on = λ after p there same-long. line-is-nothing (sym p ∙ then-is);
                 nearer = λ after p. line-is-nothing (sym p ∙ then-is);
               }
             where
@@ -121,12 +149,15 @@ module _ (t : Table) (k : Tasks) (total : ℕ) where
               then-is : then ≡ next.Nothing
               then-is = ap (λ (x : OneLine). x .next) same
 
-              all : used + n ≡ total
-              all = ap (λ x. used + x) (ap (λ (x : OneLine). x .length) same ∙ ap length (sym g)) ∙ here .sum
+              count : n ≡ length bytes
+              count = ap (λ (x : OneLine). x .length) same
 
-pub rows-begin : (t : Table) (k : Tasks) (buffer : List ℕ) → length buffer ≡ 8192 → RowAt t k cursor.Header
-    → Rows t k (length (rowsToWrite t k cursor.Header)) cursor.Header 0 buffer × (length (rowsToWrite t k cursor.Header) ≤ 4224)
-rows-begin t k buffer long now = (record { long = long; at = now; sum = zero-add _ }, little-rows t k cursor.Header now)
+              fits : used + n ≤ 4224
+              fits =
+                  let all = few in
+                  let sum = ap length g in
+                  let long = count in
+                  omega (arith, all, sum, long)
 
 -- ---- the whole output
 module _ (file : List ℕ) (m : MeterFile) (judged : JudgeFileIs file m) (n : ℕ) where
@@ -134,6 +165,6 @@ module _ (file : List ℕ) (m : MeterFile) (judged : JudgeFileIs file m) (n : �
   unfolding responseOutput
   response-refused q e d = d ∙ ap length (sym (output-refused file m judged q e _))
 
-  pub response-counted : m .verdict ≡ verdict.Good → n ≡ length (rowsToWrite (m .table) (m .tasks) cursor.Header) → PrintResponseIs file n
+  pub response-held : m .verdict ≡ verdict.Good → (last : List ℕ) → RowsAre (m .table) (m .tasks) last n → PrintResponseIs file n
   unfolding responseOutput
-  response-counted e d = d ∙ ap length (all-rows file m judged e ∙ sym (output-good file m judged e _))
+  response-held e last are = sym (length-take-le n last (are .0)) ∙ ap length (are .1 ∙ all-rows file m judged e ∙ sym (output-good file m judged e _))

@@ -1,2 +1,2 @@
--- what each public function promises
+-- what each function promises
 pub mod Promises

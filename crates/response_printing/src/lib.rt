@@ -2,8 +2,8 @@
 ghost use mathlib.Core.Path.{_≡_};
 ghost use lib.ListN.{length};
 ghost use Rattle.response_lines.specs.declared.Cursor.the-variants.{Header};
-ghost use Rattle.outputs.specs.ResponseMoments.{RowAt, rowsToWrite};
-ghost use Rattle.response_printing.specs.Promises.{PrintResponseIs};
+ghost use Rattle.outputs.specs.ResponseMoments.{RowAt};
+ghost use Rattle.response_printing.specs.Promises.{RowsAre, PrintResponseIs};
 use refusal_printing::print_refusal;
 use response_lines::Cursor;
 use response_lines::Made;
@@ -15,9 +15,9 @@ use verdicts::Verdict;
 use whole_file::judge_file;
 
 // Row by row into a buffer that holds them all: at most 66 lines.
-fn print_rows(fd: i32, t: Table, tasks: Tasks, out: &mut [u8]) -> usize
+fn rows_into(t: Table, tasks: Tasks, out: &mut [u8]) -> usize
     requires { ⌜ (length (now out) ≡ 8192) × (RowAt t tasks Header) ⌝ }
-    ensures { λ r. ⌜ r ≡ length (rowsToWrite t tasks Header) ⌝ }
+    ensures { λ r. ⌜ RowsAre t tasks (now (out .exit)) r ⌝ }
 {
     let mut cursor = Cursor::Header;
     let mut used = 0;
@@ -28,7 +28,6 @@ fn print_rows(fd: i32, t: Table, tasks: Tasks, out: &mut [u8]) -> usize
         };
         used += length;
         let Next::Line(after) = next else {
-            io::write_all(fd, &out[..used]);
             return used;
         };
         cursor = after;
@@ -47,5 +46,7 @@ pub fn print_response(fd: i32, file: &[u8]) -> usize
     let table = held.table;
     let tasks = held.tasks;
     let mut out = [0u8; 8192];
-    print_rows(fd, table, tasks, &mut out)
+    let used = rows_into(table, tasks, &mut out);
+    io::write_all(fd, &out[..used]);
+    used
 }
