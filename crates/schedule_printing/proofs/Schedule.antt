@@ -1,9 +1,12 @@
 -- The lines of a schedule, counted: what is sent and what is still to be written make the whole.
 use Prim.Native.Nat.{ℕ, _+_, _-_, _≤_, _<_}
 use mathlib.Core.Path.{_≡_, sym, _∙_, ap, subst}
+use mathlib.Core.Bool.{cond}
 use mathlib.Core.List.{List, _++_}
 use native.Mathlib.Nat.{zero-add}
 use native.Mathlib.Omega.{arith}
+use borrow.Author.Tests.{le-leb, lt-leb}
+use lib.Dec.{leb}
 use lib.ListN.{length, take, drop, length-drop}
 use lib.Seq.{length-take-le}
 use Rattle.rules.specs.Refusals.{Refused, refusedAs}
@@ -135,6 +138,13 @@ run-begins file t start events buffer long now =
 
 pub within : (file : List ℕ) (t : Table) (total : ℕ) (state : State) (c : Cursor) (used sent : ℕ) (buffer : List ℕ) → Running file t total state c used sent buffer → used ≤ length buffer
 within file t total state c used sent buffer here = rw (here .long) (here .held)
+
+-- ---- what the buffer holds is kept, or written out
+pub room-kept : (used : ℕ) → used ≤ 4032 → (used ≤ 4032) × (used ≡ cond (leb used 4032) used 0)
+room-kept used few = (few, sym (rw (le-leb used 4032 few)))
+
+pub room-made : (used : ℕ) → 4032 < used → (0 ≤ 4032) × (0 ≡ cond (leb used 4032) used 0)
+room-made used many = (omega arith, sym (rw (lt-leb used 4032 many)))
 
 -- ---- the whole output
 module _ (file : List ℕ) (m : MeterFile) (judged : JudgeFileIs file m) (n : ℕ) where

@@ -1,6 +1,8 @@
 // The whole schedule of a file, line by line through a buffer, to a descriptor. The answer is how many bytes it has.
 ghost use mathlib.Core.Path.{_≡_};
+ghost use mathlib.Core.Bool.{cond};
 ghost use Prim.Native.Nat.{_≤_};
+ghost use lib.Dec.{leb};
 ghost use lib.ListN.{length};
 ghost use Rattle.scheduler.specs.States.{pairs};
 ghost use Rattle.schedule_lines.specs.declared.Cursor.the-variants.{Header};
@@ -19,7 +21,7 @@ use whole_file::judge_file;
 // Writes out what the buffer holds where another line might not fit, and says how much it holds then.
 fn with_room(fd: i32, out: &[u8], used: usize) -> usize
     requires { ⌜ used ≤ length (now out) ⌝ }
-    ensures { λ r. ⌜ r ≤ 4032 ⌝ }
+    ensures { λ r. ⌜ (r ≤ 4032) × (r ≡ cond (leb used 4032) used 0) ⌝ }
 {
     if used <= 4032 {
         return used;
