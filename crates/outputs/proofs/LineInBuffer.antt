@@ -1,14 +1,14 @@
 -- A line in the buffer of its call: there is room for any, and what is taken out again is the line; that of a refusal too.
-use Prim.Native.Nat.{ℕ, _≤_}
-use mathlib.Core.Path.{_≡_, _∙_, ap}
+use Prim.Native.Nat.{ℕ, _+_, _≤_}
+use mathlib.Core.Path.{_≡_, _∙_, ap, sym}
 use mathlib.Core.Bool.{Bool}
-use mathlib.Core.List.{List}
+use mathlib.Core.List.{List, _++_, append-assoc}
 use mathlib.Core.Option.{none}
 use native.Mathlib.Nat.{le-trans}
 use borrow.Author.Tests.{le-leb}
 use lib.Dec.{leb}
-use lib.ListN.{length, take, drop}
-use lib.Seq.{take-append-seam}
+use lib.ListN.{length, take, drop, length-append}
+use lib.Seq.{take-append-seam, take-at, length-take-le}
 use Rattle.basis.specs.Words.{unless, onto}
 use Rattle.rules.specs.Refusals.{refusedAs}
 use Rattle.file_rules.specs.Printers.{refusedLine}
@@ -26,6 +26,14 @@ has-room bytes buffer short room = ap (λ (a : Bool). unless a (length bytes)) (
 -- a line at the start of a buffer
 pub taken : (n : ℕ) (bytes buffer last : List ℕ) → n ≡ length bytes → last ≡ onto bytes buffer → take n last ≡ bytes
 taken n bytes buffer last e f = (λ i. take (e i) (f i)) ∙ take-append-seam bytes (drop (length bytes) buffer)
+
+-- a line behind what a buffer holds before it
+pub behind : (used n : ℕ) (bytes buffer part last after : List ℕ) → used ≤ length buffer → n ≡ length bytes → last ≡ onto bytes part → take (used + n) (take used buffer ++ (last ++ after)) ≡ take used buffer ++ bytes
+behind used n bytes buffer part last after inside e f =
+    ap (λ (xs : List ℕ). take (used + n) (take used buffer ++ (xs ++ after))) f
+    ∙ ap (λ (xs : List ℕ). take (used + n) (take used buffer ++ xs)) (append-assoc bytes (drop (length bytes) part) after)
+    ∙ ap (take (used + n)) (sym (append-assoc (take used buffer) bytes (drop (length bytes) part ++ after)))
+    ∙ take-at (take used buffer ++ bytes) (drop (length bytes) part ++ after) (used + n) (length-append (take used buffer) bytes ∙ (λ i. length-take-le used buffer inside i + sym e i))
 
 -- the line of a refusal
 pub refused-written : (q : Refusal) (output : List ℕ) → RefusedWith q output → output ≡ refusedLine (refusedAs q)
