@@ -1,2 +1,2 @@
--- the lines of a schedule, counted
+-- the pages of a schedule, and what is sent of them
 pub mod Schedule

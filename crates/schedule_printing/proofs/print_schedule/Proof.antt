@@ -23,14 +23,14 @@ enum-told c = search needs
 fresh-requires : tie.Need-fresh-requires
 fresh-requires c κs = search needs
 
-slice-aggregate-print-lines : tie.Need-slice-aggregate-print-lines
-slice-aggregate-print-lines c = search needs
+slice-aggregate-print-pages : tie.Need-slice-aggregate-print-pages
+slice-aggregate-print-pages c = search needs
 
-print-lines-requires : tie.Need-print-lines-requires
-print-lines-requires c κs = (refl, start-moment _ _ (c .before .before .before .before .before .before .judge-file .ensures) (c .before .before .before .before .enum-told .given .1) _ _ (c .before .before .fresh .ensures))
+print-pages-requires : tie.Need-print-pages-requires
+print-pages-requires c κs = (refl, start-moment _ _ (c .before .before .before .before .before .before .judge-file .ensures) (c .before .before .before .before .enum-told .given .1) _ _ (c .before .before .fresh .ensures))
 
 returns-2 : tie.Need-returns-2
-returns-2 c = schedule-counted _ _ (c .before .before .before .before .before .before .before .before .judge-file .ensures) _ (c .before .before .before .before .before .before .enum-told .given .1) _ _ (c .before .before .before .before .fresh .ensures) (c .before .print-lines .ensures)
+returns-2 c = schedule-counted _ _ (c .before .before .before .before .before .before .before .before .judge-file .ensures) _ (c .before .before .before .before .before .before .enum-told .given .1) _ _ (c .before .before .before .before .fresh .ensures) (c .before .print-pages .ensures)
 
 pub print-schedule-spec : {M : Type 1} → statement M
 print-schedule-spec =
@@ -42,6 +42,6 @@ print-schedule-spec =
     returns
     enum-told
     fresh-requires
-    slice-aggregate-print-lines
-    print-lines-requires
+    slice-aggregate-print-pages
+    print-pages-requires
     returns-2)
