@@ -16,38 +16,27 @@ fn text(words: &[u8]) {
     io::write_all(STDOUT_FILENO, words);
 }
 
-// A digit, or a space where the number doesn't reach so far.
-fn digit(x: u64, reaches: bool) -> u8 {
-    if !reaches {
-        return 32;
-    }
+// The last digit.
+fn digit(x: u64) -> u8 {
     48 + (x % 10) as u8
 }
 
-// A number in seven columns.
+// A number, with a space in front.
 fn number(x: u64) {
-    let digits = [
-        digit(x / 1000000, x >= 1000000),
-        digit(x / 100000, x >= 100000),
-        digit(x / 10000, x >= 10000),
-        digit(x / 1000, x >= 1000),
-        digit(x / 100, x >= 100),
-        digit(x / 10, x >= 10),
-        digit(x, true),
-    ];
-    text(&digits);
+    text(b" ");
+    io::print_decimal(STDOUT_FILENO, x);
 }
 
 // Hundredths, and tenths, with two places after the point as 000 prints them.
 fn hundredths(x: u64) {
     number(x / 100);
-    let places = [46u8, digit(x / 10, true), digit(x, true)];
+    let places = [46u8, digit(x / 10), digit(x)];
     text(&places);
 }
 
 fn tenths(x: u64) {
     number(x / 10);
-    let places = [46u8, digit(x, true), 48];
+    let places = [46u8, digit(x), 48];
     text(&places);
 }
 
@@ -168,7 +157,7 @@ fn show_response(i: usize, said: Response, paper: u64) {
     };
     number((i / 5 + 1) as u64);
     text(b",");
-    let rank = [digit((i % 5 + 1) as u64, true)];
+    let rank = [digit((i % 5 + 1) as u64)];
     text(&rank);
     tenths(ticks);
     hundredths(paper);
@@ -222,7 +211,7 @@ fn show_rs(t: Table) {
 // A candidate by 000's numbers.
 fn show_name(pick: u8) {
     if pick == 255 {
-        text(b"   idle");
+        text(b" idle");
         return;
     }
     number(pick as u64 + 1);
