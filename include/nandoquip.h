@@ -162,7 +162,8 @@ struct nandoquip_tested nandoquip_standing(struct nandoquip_table table, struct 
 struct nandoquip_length nandoquip_busy_length(struct nandoquip_table table, struct nandoquip_state state,
                                               size_t partition, uint32_t inversion);
 
-/* The candidates. Over an admitted table, from a state that stands, none of them makes anyone miss a budget. Refusals 1 and 3. */
+/* The candidates. Over an admitted table, from a state that stands, none of them makes anyone miss a budget.
+ * Refusals 1 and 3. */
 struct nandoquip_listed nandoquip_candidates(struct nandoquip_table table, struct nandoquip_state state);
 
 /* The candidates and their weights. Refusals 1 and 3. */
