@@ -1,4 +1,5 @@
 // The lines of the two printers, written into a lent buffer.
+#![tactic(auto)]
 ghost use Rattle.std.specs.Prelude.{◌+◌, ◌≤◌, ◌∷◌, ◌≡◌, length};
 ghost use Rattle.basis.specs.Reckoned.{Reckoned};
 ghost use Rattle.file_rules.specs.Printers.{decimal, pick_text, response_text};

@@ -1,4 +1,6 @@
 // The record reader: a record of a meter file with the next offset, or refusal 8, and its payload as a part of the caller's file.
+#![tactic(auto)]
+
 ghost use Rattle.std.specs.Prelude.{◌≡◌};
 ghost use Rattle.basis.specs.Words.{has};
 ghost use Rattle.file_rules.specs.MeterFile.{form as form_of, is_record};
