@@ -1,4 +1,6 @@
 // The busy engine: how long a partition's work and all above it take, and whether that is within its deadline.
+#![tactic(auto)]
+
 ghost use Rattle.std.specs.Prelude.{◌≡◌, cond, suc, ◌+◌, ◌*◌, ◌<◌, ◌≤◌, ltb};
 ghost use Rattle.basis.specs.Words.{◌!◌, sum_below, settle};
 ghost use Rattle.basis.specs.Reckoned.{Reckoned};

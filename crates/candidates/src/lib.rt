@@ -1,4 +1,6 @@
 // Who may run now: the candidate list, and its members, as calls.
+#![tactic(auto)]
+
 ghost use Rattle.std.specs.Prelude.{◌≡◌, ◌≤◌, take};
 ghost use Rattle.std.proofs.Math.ListN as Seq;
 ghost use Rattle.basis.specs.Words.{has};

@@ -1,4 +1,6 @@
 // The draw: the weights of the candidates, and the pick that a word makes among them.
+#![tactic(auto)]
+
 ghost use Rattle.std.specs.Prelude.{◌≡◌, ◌⊎◌, ◌*◌, ◌/◌, ◌<◌, ◌≤◌, take};
 ghost use Rattle.std.proofs.Math.ListN as Seq;
 ghost use Rattle.rules.specs.Candidates.{idle};

@@ -1,4 +1,6 @@
 // The answers of the calls as plain numbers, for C. Each begins with a refusal's two numbers. Where a call is refused, every value after them is 0, and a state is the one that was given.
+#![tactic(auto)]
+
 ghost use Rattle.std.specs.Prelude.{◌≡◌};
 ghost use Rattle.std.proofs.Math.Option.{some, none};
 ghost use Rattle.rules.specs.Refusals.{refused_as};

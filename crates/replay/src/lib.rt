@@ -1,4 +1,6 @@
 // One record replayed: what a word or a release of a meter file does to the state.
+#![tactic(auto)]
+
 ghost use Rattle.file_rules.specs.Events.{ticked, released};
 ghost use Rattle.rules.specs.Pick.{decision};
 ghost use Rattle.replay.specs.Promises.{DoneIs, ReplayIs};

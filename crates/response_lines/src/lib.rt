@@ -1,4 +1,6 @@
 // The response printer, one line a call: the header, a row for each task, and the end.
+#![tactic(auto)]
+
 ghost use Rattle.std.specs.Prelude.{◌≡◌, ◌<◌};
 ghost use Rattle.rules.specs.TaskResponse.{rank_of};
 ghost use Rattle.response_lines.specs.Promises.{TasksJudgedIs, PutIs, PlainIs, RowIs, ResponseLineIs};

@@ -1,4 +1,6 @@
 // The response times of tasks: how long a task takes at worst, from its own partition's numbers alone.
+#![tactic(auto)]
+
 ghost use Rattle.std.specs.Prelude.{◌≡◌, cond, suc, ◌+◌, ◌*◌, ◌<◌, ◌≤◌, eqb};
 ghost use Rattle.basis.specs.Words.{◌!◌, ceil, sum_below};
 ghost use Rattle.basis.specs.Reckoned.{Reckoned};

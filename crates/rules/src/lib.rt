@@ -1,4 +1,5 @@
 // The plain records of the scheduler, and the enum of its refusals. The rules about them are definitions, in specs/.
+#![tactic(auto)]
 
 // A partition: period T, budget B and phase, in ticks.
 #[repr(C)]

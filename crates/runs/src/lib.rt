@@ -1,4 +1,6 @@
 // A step by a word, and a run over words: decisions and their ticks.
+#![tactic(auto)]
+
 ghost use Rattle.std.specs.Prelude.{◌≤◌};
 ghost use Rattle.std.proofs.Math.ListN as Seq;
 ghost use Rattle.runs.specs.Promises.{DrawnIs, StepIs, RunIs, Filled};

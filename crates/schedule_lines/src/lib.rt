@@ -1,4 +1,6 @@
 // The schedule printer, one line a call: the header, a line for each word or release, and the end.
+#![tactic(auto)]
+
 ghost use Rattle.std.specs.Prelude.{◌≡◌};
 ghost use Rattle.schedule_lines.specs.Coming.{counted_on};
 ghost use Rattle.schedule_lines.specs.Promises.{SizeJudgedIs, PutIs, PlainIs, RefusedIs, EventIs, ScheduleLineIs};

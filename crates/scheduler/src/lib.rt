@@ -1,4 +1,6 @@
 // The scheduler's state, and what changes it: fresh start, tick and release.
+#![tactic(auto)]
+
 ghost use Rattle.std.specs.Prelude.{◌≡◌, ◌≤◌};
 ghost use Rattle.rules.specs.FreshStart.{fresh_start};
 ghost use Rattle.rules.specs.Refusals.{refused_as};

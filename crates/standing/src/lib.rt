@@ -1,4 +1,6 @@
 // Does it stand: the standing test, admission, one partition's R, and the busy test as calls.
+#![tactic(auto)]
+
 ghost use Rattle.std.specs.Prelude.{◌≡◌, ◌≤◌};
 ghost use Rattle.rules.specs.StandingTest.{first_failing};
 ghost use Rattle.verdicts.specs.Outcome.{gives};

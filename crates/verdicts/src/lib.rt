@@ -1,4 +1,6 @@
 // What a call says of a refusal: a verdict, and the refusal's two numbers.
+#![tactic(auto)]
+
 ghost use Rattle.verdicts.specs.Promises.{NumbersAre};
 
 use rules::Refusal;

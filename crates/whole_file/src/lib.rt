@@ -1,4 +1,6 @@
 // A whole meter file: the tables that it holds and where its events begin, in one pass, judged and refused by number.
+#![tactic(auto)]
+
 ghost use Rattle.std.specs.Prelude.{◌≡◌, ◌<◌};
 ghost use Rattle.whole_file.specs.Inner.{with_partition, with_task, with_record, empty, LoadIs, JudgeHeldIs};
 ghost use Rattle.whole_file.specs.Promises.{judged_as, refused_file, JudgeFileIs};
