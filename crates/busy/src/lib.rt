@@ -12,7 +12,7 @@ ghost use Rattle.busy.specs.Spans.{span_as};
 pub mod search;
 
 // Where the repetition ends: within the deadline, after so many ticks, or past it.
-#[derive(Drop)]
+#[derive(Clone, Copy)]
 pub enum Span {
     Within(u64),
     Over,

@@ -12,7 +12,7 @@ use rules::Table;
 use verdicts::Verdict;
 
 // The candidate list as an answer. On a refusal all places are 0.
-#[derive(Drop)]
+#[derive(Clone, Copy)]
 pub struct Listed {
     pub list: [u8; 17],
     pub length: usize,

@@ -12,7 +12,7 @@ use rules::Refusal;
 use verdicts::numbers;
 
 // A line of a printer: what its fields are.
-#[derive(Drop)]
+#[derive(Clone, Copy)]
 pub enum Line {
     ScheduleHeader,
     ResponseHeader,
@@ -28,7 +28,7 @@ pub enum Line {
 }
 
 // The bytes written, or why not.
-#[derive(Drop)]
+#[derive(Clone, Copy)]
 pub enum Written {
     Bytes(usize),
     Refused(Refusal),

@@ -11,14 +11,14 @@ use little_endian::two;
 use rules::Refusal;
 
 // A record with its kind and the offset of the next one, or why there is none.
-#[derive(Drop)]
+#[derive(Clone, Copy)]
 pub enum Read {
     Record(u16, usize),
     Refused(Refusal),
 }
 
 // What a kind says of its records: their length, which counts kind and payload, and their place in the order.
-#[derive(Drop)]
+#[derive(Clone, Copy)]
 struct Shape {
     length: u16,
     place: u16,

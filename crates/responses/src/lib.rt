@@ -14,7 +14,7 @@ use tasks::judge_task;
 use verdicts::Verdict;
 
 // The ticks that a task takes at worst, 0 for late.
-#[derive(Drop)]
+#[derive(Clone, Copy)]
 pub enum Response {
     Ticks(u64),
     Refused(Refusal),

@@ -13,7 +13,7 @@ use ticks::pass_tick;
 use verdicts::Verdict;
 
 // The state after a step, and its pick.
-#[derive(Drop)]
+#[derive(Clone, Copy)]
 pub struct Stepped {
     pub state: State,
     pub decision: Decision,

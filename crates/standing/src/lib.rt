@@ -15,7 +15,7 @@ use rules::{Refusal, Table};
 use verdicts::Verdict;
 
 // Whether all partitions pass, or which is the first that fails.
-#[derive(Drop)]
+#[derive(Clone, Copy)]
 pub enum Test {
     Passes,
     Fails(usize),
@@ -23,7 +23,7 @@ pub enum Test {
 }
 
 // A length of time in ticks that is within its deadline, or that it is over.
-#[derive(Drop)]
+#[derive(Clone, Copy)]
 pub enum Length {
     Within(u64),
     Over,

@@ -15,7 +15,7 @@ use tasks::judge_tasks;
 use verdicts::Verdict;
 
 // What a meter file holds: its partitions, its tasks, and where its first word or release begins, or its end. On a refusal all of that is 0.
-#[derive(Drop)]
+#[derive(Clone, Copy)]
 pub struct MeterFile {
     pub table: Table,
     pub tasks: Tasks,
@@ -24,7 +24,7 @@ pub struct MeterFile {
 }
 
 // What the records so far hold.
-#[derive(Drop)]
+#[derive(Clone, Copy)]
 struct Held {
     table: Table,
     tasks: Tasks,

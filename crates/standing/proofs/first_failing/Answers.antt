@@ -9,10 +9,10 @@ pub loop-h-init : goal.loop-h-init
 loop-h-init c = (zero-le, pass_begins _)
 
 pub returns-then-not-passes : goal.returns-then-not-passes
-returns-then-not-passes c = said _ _ _ _ _ _ (fails_here _ _ c.loop-h.invariant.1 _ _ c.loop-h-test.true (tested _ _ _ _ _ _ _ c.requires c.loop-h-test.true c.passes.ensures) c.if-not-passes.true-raw)
+returns-then-not-passes c = said _ _ _ _ _ _ (fails_here _ _ c.loop-h.invariant.1 _ _ c.loop-h-test.true (tested _ _ _ _ _ _ _ c.requires c.loop-h-test.true c.passes.ensures) c.if-not-passes.true)
 
 pub loop-h-preserved : goal.loop-h-preserved
-loop-h-preserved c = (omega arith, pass_next _ _ c.loop-h.invariant.1 _ (tested _ _ _ _ _ _ _ c.requires c.loop-h-test.true c.passes.ensures) c.if-not-passes.false-raw)
+loop-h-preserved c = (omega arith, pass_next _ _ c.loop-h.invariant.1 _ (tested _ _ _ _ _ _ _ c.requires c.loop-h-test.true c.passes.ensures) c.if-not-passes.false)
 
 pub returns : goal.returns
 returns c = said _ _ _ _ _ _ (none_fails _ _ c.loop-h.invariant.1 _ c.loop-h-test.false c.loop-h.invariant.0)
