@@ -18,7 +18,7 @@ use verdicts::Verdict;
 use whole_file::judge_file;
 
 // What is to come after a page: lines from a cursor on, nothing, or the line of a refusal.
-#[derive(Drop)]
+#[derive(Clone, Copy)]
 enum Rest {
     Lines(Cursor),
     Nothing,
@@ -26,7 +26,7 @@ enum Rest {
 }
 
 // How many bytes of its buffer a page takes, the state after it, and what is to come.
-#[derive(Drop)]
+#[derive(Clone, Copy)]
 struct Page {
     used: usize,
     state: State,
