@@ -1,1 +1,2 @@
 // One answer for each call: no code, only theorems in proofs/.
+#![tactic(auto)]

@@ -8,7 +8,7 @@ use mathlib.Core.Option.{Option, some, none}
 use native.Mathlib.Nat.{le_refl, le_antisymm}
 use native.Mathlib.Numerals.{add-one}
 use native.Mathlib.Omega.{arith}
-use borrow.Author.Tests.{lt-ltb, le-ltb, le-leb, ltb-false, ltb-true, not-true, not-false}
+use borrow.Author.Tests.{lt-ltb, le-ltb, le-leb, ltb-false, ltb-true}
 use lib.Dec.{ltb, leb}
 use lib.ListN.{length, replicate, set, length-append, length-map}
 use Rattle.basis.specs.Words.{◌!◌, all, those, first, padded}
@@ -134,12 +134,12 @@ module _ (n : ℕ) (T B b o : List ℕ) where
   pub Tested : ℕ → Type 0
   Tested h = (k : ℕ) → k < h → passes T B b o k inversion ≡ true
 
-  pub tested_on : (h : ℕ) (r : Bool) → Tested h → r ≡ passes T B b o h inversion → not r ≡ false → Tested (h + 1)
+  pub tested_on : (h : ℕ) (r : Bool) → Tested h → r ≡ passes T B b o h inversion → r ≡ true → Tested (h + 1)
   unfolding Tested
   tested_on h r before e on k l = ⊎_elim (before k) (λ m. last (omega arith)) (below_or_not k h)
     where
       last : h ≡ k → passes T B b o k inversion ≡ true
-      last same = subst (λ (m : ℕ). passes T B b o m inversion ≡ true) same (sym e ∙ not-false r on)
+      last same = subst (λ (m : ℕ). passes T B b o m inversion ≡ true) same (sym e ∙ on)
 
   pub tested-all : (h until : ℕ) → Tested h → until ≤ h → Tested until
   unfolding Tested
@@ -151,10 +151,10 @@ module _ (n : ℕ) (T B b o : List ℕ) where
     tested-before = here.passing
 
     -- a place that is no candidate is passed over
-    pub search_skips : (r : Bool) → c < n + 1 → r ≡ wants c → not r ≡ true → SoFar (c + 1) list count passed
+    pub search_skips : (r : Bool) → c < n + 1 → r ≡ wants c → r ≡ false → SoFar (c + 1) list count passed
     unfolding named chosen
     search_skips r l e off =
-        let no-candidate : chosen c ≡ false = ap (λ (a : Bool). a && may_run T B b o inversion c) (sym e ∙ not-true r off) in
+        let no-candidate : chosen c ≡ false = ap (λ (a : Bool). a && may_run T B b o inversion c) (sym e ∙ off) in
         let same : named (c + 1) ≡ named c = ap (map name) (those_skip c chosen no-candidate) in
         let behind = here.behind in
         let short = here.short in
@@ -194,7 +194,7 @@ module _ (n : ℕ) (T B b o : List ℕ) where
       tests_few few l = let near = tests_within in omega arith
 
       -- once they are all passed, the candidate is in
-      pub search_takes : (r : Bool) (x : ℕ) → n ≤ 16 → c < n + 1 → r ≡ wants c → not r ≡ false → Tested until → x ≡ name c
+      pub search_takes : (r : Bool) (x : ℕ) → n ≤ 16 → c < n + 1 → r ≡ wants c → r ≡ true → Tested until → x ≡ name c
           → SoFar (c + 1) (set list count x) (count + 1) until
       unfolding named chosen Tested may_run
       search_takes r x few l e on tested d =
@@ -221,7 +221,7 @@ module _ (n : ℕ) (T B b o : List ℕ) where
               first-active_may n T B b o inversion c (nobody c (omega arith) (omega arith))
 
           in_it : chosen c ≡ true
-          in_it = both (sym e ∙ not-false r on) (may (ltb 0 count) refl)
+          in_it = both (sym e ∙ on) (may (ltb 0 count) refl)
 
           room : length (named c) < 17
           room = let short = here.short in let same = here.count_is in omega arith
@@ -230,13 +230,13 @@ module _ (n : ℕ) (T B b o : List ℕ) where
           placed = (λ i. set (here.list_is i) (here.count_is i) (d i)) ∙ padded-next 17 (named c) (name c) room
 
       -- the first failed test ends the whole search: nobody further down may run
-      pub search_fails : (h : ℕ) (r : Bool) → n ≤ 16 → c < n + 1 → passed ≤ h → h < until → r ≡ passes T B b o h inversion → not r ≡ true
+      pub search_fails : (h : ℕ) (r : Bool) → n ≤ 16 → c < n + 1 → passed ≤ h → h < until → r ≡ passes T B b o h inversion → r ≡ false
           → SearchIs n T B b o (record { list = list; length = count })
       unfolding named
       search_fails h r few l k m e off = listing few (named_all ∙ ap (map name) (those_stop c (n + 1) chosen here.within nobody_else))
         where
           failed : passes T B b o h inversion ≡ false
-          failed = sym e ∙ not-true r off
+          failed = sym e ∙ off
 
           above : (a : Bool) → ltb 0 count ≡ a → 0 < count
           above true p = ltb-true 0 count p

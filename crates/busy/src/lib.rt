@@ -1,4 +1,6 @@
 // The busy engine: how long a partition's work and all above it take, and whether that is within its deadline.
+#![tactic(auto)]
+
 ghost use Rattle.std.specs.Prelude.{◌≡◌, cond, suc, ◌+◌, ◌*◌, ◌<◌, ◌≤◌, ltb};
 ghost use Rattle.basis.specs.Words.{◌!◌, sum_below, settle};
 ghost use Rattle.basis.specs.Reckoned.{Reckoned};
@@ -10,7 +12,7 @@ ghost use Rattle.busy.specs.Spans.{span_as};
 pub mod search;
 
 // Where the repetition ends: within the deadline, after so many ticks, or past it.
-#[derive(Drop)]
+#[derive(Clone, Copy)]
 pub enum Span {
     Within(u64),
     Over,

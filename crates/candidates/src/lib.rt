@@ -1,4 +1,6 @@
 // Who may run now: the candidate list, and its members, as calls.
+#![tactic(auto)]
+
 ghost use Rattle.std.specs.Prelude.{◌≡◌, ◌≤◌, take};
 ghost use Rattle.std.proofs.Math.ListN as Seq;
 ghost use Rattle.basis.specs.Words.{has};
@@ -10,7 +12,7 @@ use rules::Table;
 use verdicts::Verdict;
 
 // The candidate list as an answer. On a refusal all places are 0.
-#[derive(Drop)]
+#[derive(Clone, Copy)]
 pub struct Listed {
     pub list: [u8; 17],
     pub length: usize,

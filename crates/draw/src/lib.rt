@@ -1,4 +1,6 @@
 // The draw: the weights of the candidates, and the pick that a word makes among them.
+#![tactic(auto)]
+
 ghost use Rattle.std.specs.Prelude.{◌≡◌, ◌⊎◌, ◌*◌, ◌/◌, ◌<◌, ◌≤◌, take};
 ghost use Rattle.std.proofs.Math.ListN as Seq;
 ghost use Rattle.rules.specs.Candidates.{idle};
@@ -14,7 +16,7 @@ use rules::{Refusal, Table};
 use verdicts::Verdict;
 
 // The weights beside the list, as an answer. On a refusal all places are 0.
-#[derive(Drop)]
+#[derive(Clone, Copy)]
 pub struct Weighed {
     pub list: [u8; 17],
     pub weights: [u32; 17],
@@ -23,7 +25,7 @@ pub struct Weighed {
 }
 
 // The pick, with idle as 255.
-#[derive(Drop)]
+#[derive(Clone, Copy)]
 pub enum Decision {
     Pick(u8),
     Refused(Refusal),

@@ -1,1 +1,2 @@
 // The laws about meter files: no code, only proofs/.
+#![tactic(auto)]

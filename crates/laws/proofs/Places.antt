@@ -102,13 +102,13 @@ module _ (test : ℕ → Bool) where
   pass_begins = refl
 
   module _ (i : ℕ) (before : PassTo i) where
-    pub pass_next : (r : Bool) → r ≡ test i → not r ≡ false → PassTo (i + 1)
+    pub pass_next : (r : Bool) → r ≡ test i → r ≡ true → PassTo (i + 1)
     unfolding PassTo first
     pass_next r e on = rw (add-one i, before, sym e, on)
 
-    pub fails_here : (n : ℕ) (r : Bool) → i < n → r ≡ test i → not r ≡ true → first n (λ j. not (test j)) ≡ some i
+    pub fails_here : (n : ℕ) (r : Bool) → i < n → r ≡ test i → r ≡ false → first n (λ j. not (test j)) ≡ some i
     unfolding PassTo
-    fails_here n r l e off = some_first n (λ j. not (test j)) i (record { below = l; passed = ap not (sym e) ∙ off; earlier = first-none i (λ j. not (test j)) before })
+    fails_here n r l e off = some_first n (λ j. not (test j)) i (record { below = l; passed = ap not (sym e ∙ off); earlier = first-none i (λ j. not (test j)) before })
 
     pub none_fails : (n : ℕ) → n ≤ i → i ≤ n → first n (λ j. not (test j)) ≡ none
     unfolding PassTo

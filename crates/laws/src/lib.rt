@@ -1,1 +1,2 @@
 // The laws about the words and the rules: no code, only proofs/.
+#![tactic(auto)]

@@ -1,4 +1,6 @@
 // The lines of the two printers, written into a lent buffer.
+#![tactic(auto)]
+
 ghost use Rattle.std.specs.Prelude.{◌+◌, ◌≤◌, ◌∷◌, ◌≡◌, length};
 ghost use Rattle.basis.specs.Reckoned.{Reckoned};
 ghost use Rattle.file_rules.specs.Printers.{decimal, pick_text, response_text};
@@ -10,7 +12,7 @@ use rules::Refusal;
 use verdicts::numbers;
 
 // A line of a printer: what its fields are.
-#[derive(Drop)]
+#[derive(Clone, Copy)]
 pub enum Line {
     ScheduleHeader,
     ResponseHeader,
@@ -26,14 +28,14 @@ pub enum Line {
 }
 
 // The bytes written, or why not.
-#[derive(Drop)]
+#[derive(Clone, Copy)]
 pub enum Written {
     Bytes(usize),
     Refused(Refusal),
 }
 
 // The first field of a line; a header is one field.
-#[derive(Drop)]
+#[derive(Clone, Copy)]
 enum First {
     ScheduleHeader,
     ResponseHeader,
@@ -43,7 +45,7 @@ enum First {
 }
 
 // A later field of a line, which has a space before it, or nothing.
-#[derive(Drop)]
+#[derive(Clone, Copy)]
 enum Later {
     Nothing,
     Idle,
@@ -54,7 +56,7 @@ enum Later {
 }
 
 // The fields of a line, in order, as many as it has.
-#[derive(Drop)]
+#[derive(Clone, Copy)]
 struct Fields(First, Later, Later, Later);
 
 // How many digits a number has.

@@ -1,4 +1,6 @@
 // The numbers in the bytes of a file, the low byte first.
+#![tactic(auto)]
+
 ghost use Rattle.std.specs.Prelude.{◌≡◌, ◌+◌, ◌*◌};
 ghost use Rattle.basis.specs.Words.{◌!◌};
 ghost use Rattle.little_endian.specs.Promises.{TwoIs, FourIs};

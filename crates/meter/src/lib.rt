@@ -1,4 +1,6 @@
 // The record reader: a record of a meter file with the next offset, or refusal 8, and its payload as a part of the caller's file.
+#![tactic(auto)]
+
 ghost use Rattle.std.specs.Prelude.{◌≡◌};
 ghost use Rattle.basis.specs.Words.{has};
 ghost use Rattle.file_rules.specs.MeterFile.{form as form_of, is_record};
@@ -9,14 +11,14 @@ use little_endian::two;
 use rules::Refusal;
 
 // A record with its kind and the offset of the next one, or why there is none.
-#[derive(Drop)]
+#[derive(Clone, Copy)]
 pub enum Read {
     Record(u16, usize),
     Refused(Refusal),
 }
 
 // What a kind says of its records: their length, which counts kind and payload, and their place in the order.
-#[derive(Drop)]
+#[derive(Clone, Copy)]
 struct Shape {
     length: u16,
     place: u16,

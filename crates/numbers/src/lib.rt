@@ -1,4 +1,6 @@
 // The answers of the calls as plain numbers, for C. Each begins with a refusal's two numbers. Where a call is refused, every value after them is 0, and a state is the one that was given.
+#![tactic(auto)]
+
 ghost use Rattle.std.specs.Prelude.{◌≡◌};
 ghost use Rattle.std.proofs.Math.Option.{some, none};
 ghost use Rattle.rules.specs.Refusals.{refused_as};
@@ -17,7 +19,7 @@ use verdicts::{Verdict, numbers};
 
 // A refusal's number and its second number; 0, 0 where the call was not refused.
 #[repr(C)]
-#[derive(Drop)]
+#[derive(Clone, Copy)]
 pub struct RefusalNumbers {
     pub number: u32,
     pub second: usize,
@@ -25,7 +27,7 @@ pub struct RefusalNumbers {
 
 // The pick, 255 for idle.
 #[repr(C)]
-#[derive(Drop)]
+#[derive(Clone, Copy)]
 pub struct Picked {
     pub refusal: RefusalNumbers,
     pub pick: u32,
@@ -33,7 +35,7 @@ pub struct Picked {
 
 // 1 and 0 where all partitions pass; else 0 and the first that fails.
 #[repr(C)]
-#[derive(Drop)]
+#[derive(Clone, Copy)]
 pub struct Tested {
     pub refusal: RefusalNumbers,
     pub passes: u32,
@@ -42,7 +44,7 @@ pub struct Tested {
 
 // 1 and the ticks where they are within the deadline; else 0 and 0.
 #[repr(C)]
-#[derive(Drop)]
+#[derive(Clone, Copy)]
 pub struct Lasting {
     pub refusal: RefusalNumbers,
     pub within: u32,
@@ -51,7 +53,7 @@ pub struct Lasting {
 
 // The ticks, 0 for late.
 #[repr(C)]
-#[derive(Drop)]
+#[derive(Clone, Copy)]
 pub struct Responded {
     pub refusal: RefusalNumbers,
     pub ticks: u64,
@@ -59,7 +61,7 @@ pub struct Responded {
 
 // The state after a call. On a refusal it is the state that was given.
 #[repr(C)]
-#[derive(Drop)]
+#[derive(Clone, Copy)]
 pub struct After {
     pub refusal: RefusalNumbers,
     pub state: State,
@@ -67,7 +69,7 @@ pub struct After {
 
 // The candidate list and its length.
 #[repr(C)]
-#[derive(Drop)]
+#[derive(Clone, Copy)]
 pub struct ListNumbers {
     pub refusal: RefusalNumbers,
     pub length: usize,
@@ -76,7 +78,7 @@ pub struct ListNumbers {
 
 // The candidate list, its length, and the weights beside it.
 #[repr(C)]
-#[derive(Drop)]
+#[derive(Clone, Copy)]
 pub struct WeightNumbers {
     pub refusal: RefusalNumbers,
     pub length: usize,
@@ -85,7 +87,7 @@ pub struct WeightNumbers {
 }
 
 // What the hook's tick gives: its pick, and the state after it.
-#[derive(Drop)]
+#[derive(Clone, Copy)]
 pub struct Turned {
     pub picked: Picked,
     pub state: State,

@@ -1,1 +1,2 @@
 // No code: the theorems that the lines of successive calls, joined, are the printers' whole output.
+#![tactic(auto)]

@@ -1,4 +1,6 @@
 // The pairs of a state, judged beside their table and refused by number.
+#![tactic(auto)]
+
 ghost use Rattle.std.specs.Prelude.{◌≡◌, true, ◌&&◌, ◌+◌, ◌≤◌, eqb};
 ghost use Rattle.std.proofs.Math.Option.{none};
 ghost use Rattle.basis.specs.Words.{within};

@@ -4,7 +4,7 @@ use mathlib.Core.Path.{◌≡◌, refl, sym, ◌∙◌, ap}
 use mathlib.Core.Bool.{Bool, true, false, not, ◌&&◌}
 use mathlib.Core.List.{List}
 use mathlib.Core.Option.{some, none}
-use borrow.Author.Tests.{le-leb, lt-leb, lt-ltb, le-ltb, eq-eqb, ne_eqb, not-true, not-false}
+use borrow.Author.Tests.{le-leb, lt-leb, lt-ltb, le-ltb, eq-eqb, ne_eqb}
 use lib.Dec.{leb}
 use Rattle.basis.specs.Words.{◌!◌, within, first}
 use Rattle.rules.specs.Numbers.{partition_in_range, first_bad_partition}
@@ -24,11 +24,11 @@ pub high_enough : (low high x : ℕ) → low ≤ x → leb x high ≡ within low
 high_enough low high x l = rw (le-leb low x l)
 
 -- a test that was left at once, and one that was passed
-pub fell : (p r : Bool) → r ≡ p → not r ≡ true → p ≡ false
-fell p r e off = sym e ∙ not-true r off
+pub fell : (p r : Bool) → r ≡ p → r ≡ false → p ≡ false
+fell p r e off = sym e ∙ off
 
-pub held : (p r : Bool) → r ≡ p → not r ≡ false → p ≡ true
-held p r e on = sym e ∙ not-false r on
+pub held : (p r : Bool) → r ≡ p → r ≡ true → p ≡ true
+held p r e on = sym e ∙ on
 
 -- tests one after the other: where one fails that decides, and where all before it pass the last one does
 pub fails_at : (p q : Bool) → p ≡ false → false ≡ (p && q)

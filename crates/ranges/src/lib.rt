@@ -1,4 +1,6 @@
 // What is in range: a partition table, judged and refused by number.
+#![tactic(auto)]
+
 ghost use Rattle.std.specs.Prelude.{◌≡◌};
 ghost use Rattle.basis.specs.Words.{within};
 ghost use Rattle.rules.specs.Numbers.{partition_in_range};

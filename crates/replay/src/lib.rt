@@ -1,4 +1,6 @@
 // One record replayed: what a word or a release of a meter file does to the state.
+#![tactic(auto)]
+
 ghost use Rattle.file_rules.specs.Events.{ticked, released};
 ghost use Rattle.rules.specs.Pick.{decision};
 ghost use Rattle.replay.specs.Promises.{DoneIs, ReplayIs};
@@ -12,7 +14,7 @@ use scheduler::State;
 use verdicts::Verdict;
 
 // A tick for a pick, a release of an index, or why there was neither.
-#[derive(Drop)]
+#[derive(Clone, Copy)]
 pub enum Event {
     Ticked(u8),
     Released(u16),
@@ -20,7 +22,7 @@ pub enum Event {
 }
 
 // The state after a record, what happened, and where the next record begins. On a refusal the state and the offset are those that were given.
-#[derive(Drop)]
+#[derive(Clone, Copy)]
 pub struct Replayed {
     pub state: State,
     pub event: Event,

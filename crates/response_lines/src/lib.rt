@@ -1,4 +1,6 @@
 // The response printer, one line a call: the header, a row for each task, and the end.
+#![tactic(auto)]
+
 ghost use Rattle.std.specs.Prelude.{◌≡◌, ◌<◌};
 ghost use Rattle.rules.specs.TaskResponse.{rank_of};
 ghost use Rattle.response_lines.specs.Promises.{TasksJudgedIs, PutIs, PlainIs, RowIs, ResponseLineIs};
@@ -11,21 +13,21 @@ use tasks::judge_tasks;
 use verdicts::Verdict;
 
 // What comes next: the header, or the row of a task. After the last task it is the end.
-#[derive(Drop)]
+#[derive(Clone, Copy)]
 pub enum Cursor {
     Header,
     Task(usize),
 }
 
 // Another line, or nothing more.
-#[derive(Drop)]
+#[derive(Clone, Copy)]
 pub enum Next {
     Line(Cursor),
     Nothing,
 }
 
 // A line of so many bytes and what comes next, or why there is none.
-#[derive(Drop)]
+#[derive(Clone, Copy)]
 pub enum Made {
     Line(usize, Next),
     Refused(Refusal),

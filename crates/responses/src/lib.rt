@@ -1,4 +1,6 @@
 // The response times of tasks: how long a task takes at worst, from its own partition's numbers alone.
+#![tactic(auto)]
+
 ghost use Rattle.std.specs.Prelude.{◌≡◌, cond, suc, ◌+◌, ◌*◌, ◌<◌, ◌≤◌, eqb};
 ghost use Rattle.basis.specs.Words.{◌!◌, ceil, sum_below};
 ghost use Rattle.basis.specs.Reckoned.{Reckoned};
@@ -12,7 +14,7 @@ use tasks::judge_task;
 use verdicts::Verdict;
 
 // The ticks that a task takes at worst, 0 for late.
-#[derive(Drop)]
+#[derive(Clone, Copy)]
 pub enum Response {
     Ticks(u64),
     Refused(Refusal),

@@ -1,8 +1,9 @@
 // The plain records of the scheduler, and the enum of its refusals. The rules about them are definitions, in specs/.
+#![tactic(auto)]
 
 // A partition: period T, budget B and phase, in ticks.
 #[repr(C)]
-#[derive(Drop)]
+#[derive(Clone, Copy)]
 pub struct Part {
     pub period: u16,
     pub budget: u16,
@@ -11,7 +12,7 @@ pub struct Part {
 
 // The partition table. Index 0 has the highest rank. Entries from `count` on are no part of it.
 #[repr(C)]
-#[derive(Drop)]
+#[derive(Clone, Copy)]
 pub struct Table {
     pub period: [u16; 16],
     pub budget: [u16; 16],
@@ -21,7 +22,7 @@ pub struct Table {
 
 // A task: the partition that it runs in, its shortest gap p and its cost e, in ticks.
 #[repr(C)]
-#[derive(Drop)]
+#[derive(Clone, Copy)]
 pub struct Task {
     pub partition: u16,
     pub gap: u16,
@@ -30,7 +31,7 @@ pub struct Task {
 
 // The task table. Tasks of one partition rank in its order. Entries from `count` on are no part of it.
 #[repr(C)]
-#[derive(Drop)]
+#[derive(Clone, Copy)]
 pub struct Tasks {
     pub count: usize,
     pub partition: [u16; 64],
@@ -39,7 +40,7 @@ pub struct Tasks {
 }
 
 // Why a call was refused. Which number each case has, and what its second number is, says specs/Refusals.antt.
-#[derive(Drop)]
+#[derive(Clone, Copy)]
 pub enum Refusal {
     BadPartition(usize),
     NotAdmitted(usize),

@@ -1,4 +1,6 @@
 // A step by a word, and a run over words: decisions and their ticks.
+#![tactic(auto)]
+
 ghost use Rattle.std.specs.Prelude.{◌≤◌};
 ghost use Rattle.std.proofs.Math.ListN as Seq;
 ghost use Rattle.runs.specs.Promises.{DrawnIs, StepIs, RunIs, Filled};
@@ -11,7 +13,7 @@ use ticks::pass_tick;
 use verdicts::Verdict;
 
 // The state after a step, and its pick.
-#[derive(Drop)]
+#[derive(Clone, Copy)]
 pub struct Stepped {
     pub state: State,
     pub decision: Decision,

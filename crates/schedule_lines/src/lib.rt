@@ -1,4 +1,6 @@
 // The schedule printer, one line a call: the header, a line for each word or release, and the end.
+#![tactic(auto)]
+
 ghost use Rattle.std.specs.Prelude.{◌≡◌};
 ghost use Rattle.schedule_lines.specs.Coming.{counted_on};
 ghost use Rattle.schedule_lines.specs.Promises.{SizeJudgedIs, PutIs, PlainIs, RefusedIs, EventIs, ScheduleLineIs};
@@ -10,28 +12,28 @@ use scheduler::State;
 use verdicts::{Verdict, numbers};
 
 // What comes next: the header, with the offset where the events begin, or the record at an offset after so many ticks. At the file's end it is the end.
-#[derive(Drop)]
+#[derive(Clone, Copy)]
 pub enum Cursor {
     Header(usize),
     Record(usize, u64),
 }
 
 // Another line, or nothing more.
-#[derive(Drop)]
+#[derive(Clone, Copy)]
 pub enum Next {
     Line(Cursor),
     Nothing,
 }
 
 // A line of so many bytes and what comes next, or why there is none.
-#[derive(Drop)]
+#[derive(Clone, Copy)]
 pub enum Made {
     Line(usize, Next),
     Refused(Refusal),
 }
 
 // The state after a call, and what it made. On a refusal it is the state that was given, and nothing is written.
-#[derive(Drop)]
+#[derive(Clone, Copy)]
 pub struct Printed {
     pub state: State,
     pub made: Made,

@@ -5,7 +5,7 @@ use mathlib.Core.Bool.{Bool, true, false, cond, not, ◌&&◌}
 use mathlib.Core.List.{List, [], ◌∷◌}
 use mathlib.Core.Option.{Option, some, none}
 use native.Mathlib.Omega.{arith}
-use borrow.Author.Tests.{lt-ltb, le-ltb, le-leb, not-true, not-false}
+use borrow.Author.Tests.{lt-ltb, le-ltb, le-leb}
 use lib.ListN.{set}
 use Rattle.basis.specs.Words.{◌!◌, has, unless}
 use Rattle.rules.specs.Numbers.{Pairs, first_bad_partition}
@@ -90,16 +90,16 @@ module _ (t : Table) (s : State) (v : Verdict) (judged : JudgedIs t s v) (r : Ch
     allowed pick m e =
         e ∙ ap (λ (a : Bool). has (cond a (candidates t.count t.period t.budget s.b s.o inversion) []) pick) (le-leb t.count 16 (few_of_state _ _ _ _ _ _ v judged good))
 
-    pub tick-unlisted : (pick : ℕ) (m : Bool) → MemberIs t.count t.period t.budget s.b s.o pick m → not m ≡ true
+    pub tick-unlisted : (pick : ℕ) (m : Bool) → MemberIs t.count t.period t.budget s.b s.o pick m → m ≡ false
         → changed_as r ≡ kept (pairs s) (refused_as (NotListed pick)) → TickIs t s pick r
     tick-unlisted pick m e off =
         unchanged _ (pairs s) _ r (NotListed pick)
-        (late_decides _ _ _ five v judged good (some pick) (ap (λ (a : Bool). unless a pick) (sym (allowed pick m e) ∙ not-true m off)))
+        (late_decides _ _ _ five v judged good (some pick) (ap (λ (a : Bool). unless a pick) (sym (allowed pick m e) ∙ off)))
 
-    pub tick-made : (pick : ℕ) (m : Bool) (f : State) → MemberIs t.count t.period t.budget s.b s.o pick m → not m ≡ false
+    pub tick-made : (pick : ℕ) (m : Bool) (f : State) → MemberIs t.count t.period t.budget s.b s.o pick m → m ≡ true
         → PassTickIs t.count t.period t.budget s.b s.o pick f.b f.o → changed_as r ≡ made (pairs f) → TickIs t s pick r
     tick-made pick m f e on =
-        changed _ (pairs s) _ r (pairs f) (late_decides _ _ _ five v judged good none (ap (λ (a : Bool). unless a pick) (sym (allowed pick m e) ∙ not-false m on)))
+        changed _ (pairs s) _ r (pairs f) (late_decides _ _ _ five v judged good none (ap (λ (a : Bool). unless a pick) (sym (allowed pick m e) ∙ on)))
 
     -- the index is active, or not
     inactive : (i : ℕ) → release_allowed t.count s.b i ≡ false → changed_as r ≡ kept (pairs s) (refused_as (NotActive i)) → ReleaseIs t s i r

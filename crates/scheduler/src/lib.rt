@@ -1,4 +1,6 @@
 // The scheduler's state, and what changes it: fresh start, tick and release.
+#![tactic(auto)]
+
 ghost use Rattle.std.specs.Prelude.{◌≡◌, ◌≤◌};
 ghost use Rattle.rules.specs.FreshStart.{fresh_start};
 ghost use Rattle.rules.specs.Refusals.{refused_as};
@@ -14,14 +16,14 @@ use verdicts::Verdict;
 
 // The sixteen pairs: what is left of each budget, and the ticks until it comes again. Pairs beyond the table are 0, 0.
 #[repr(C)]
-#[derive(Drop)]
+#[derive(Clone, Copy)]
 pub struct State {
     pub b: [u16; 16],
     pub o: [u16; 16],
 }
 
 // The state after a call, and whether it was refused. On a refusal it is the state that was given.
-#[derive(Drop)]
+#[derive(Clone, Copy)]
 pub struct Changed {
     pub state: State,
     pub verdict: Verdict,

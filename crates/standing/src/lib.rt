@@ -1,4 +1,6 @@
 // Does it stand: the standing test, admission, one partition's R, and the busy test as calls.
+#![tactic(auto)]
+
 ghost use Rattle.std.specs.Prelude.{◌≡◌, ◌≤◌};
 ghost use Rattle.rules.specs.StandingTest.{first_failing};
 ghost use Rattle.verdicts.specs.Outcome.{gives};
@@ -13,7 +15,7 @@ use rules::{Refusal, Table};
 use verdicts::Verdict;
 
 // Whether all partitions pass, or which is the first that fails.
-#[derive(Drop)]
+#[derive(Clone, Copy)]
 pub enum Test {
     Passes,
     Fails(usize),
@@ -21,7 +23,7 @@ pub enum Test {
 }
 
 // A length of time in ticks that is within its deadline, or that it is over.
-#[derive(Drop)]
+#[derive(Clone, Copy)]
 pub enum Length {
     Within(u64),
     Over,

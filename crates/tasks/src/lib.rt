@@ -1,4 +1,6 @@
 // A table of tasks, judged and refused by number.
+#![tactic(auto)]
+
 ghost use Rattle.std.specs.Prelude.{◌≡◌};
 ghost use Rattle.rules.specs.Numbers.{task_in_range};
 ghost use Rattle.tasks.specs.Promises.{JudgeTasksIs, JudgeTaskIs};

@@ -1,4 +1,6 @@
 // A tick over lent pairs: the pick loses one, and time passes.
+#![tactic(auto)]
+
 ghost use Rattle.std.specs.Prelude.{◌≡◌, ◌≤◌};
 ghost use Rattle.std.proofs.Math.ListN as Seq;
 ghost use Rattle.rules.specs.Tick.{spend};

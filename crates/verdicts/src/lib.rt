@@ -1,17 +1,19 @@
 // What a call says of a refusal: a verdict, and the refusal's two numbers.
+#![tactic(auto)]
+
 ghost use Rattle.verdicts.specs.Promises.{NumbersAre};
 
 use rules::Refusal;
 
 // Nothing against it, or why it is refused.
-#[derive(Drop)]
+#[derive(Clone, Copy)]
 pub enum Verdict {
     Good,
     Refused(Refusal),
 }
 
 // A refusal's number and its second number.
-#[derive(Drop)]
+#[derive(Clone, Copy)]
 pub struct Numbered {
     pub number: u32,
     pub second: usize,

@@ -1,4 +1,6 @@
 // A whole meter file: the tables that it holds and where its events begin, in one pass, judged and refused by number.
+#![tactic(auto)]
+
 ghost use Rattle.std.specs.Prelude.{◌≡◌, ◌<◌};
 ghost use Rattle.whole_file.specs.Inner.{with_partition, with_task, with_record, empty, LoadIs, JudgeHeldIs};
 ghost use Rattle.whole_file.specs.Promises.{judged_as, refused_file, JudgeFileIs};
@@ -13,7 +15,7 @@ use tasks::judge_tasks;
 use verdicts::Verdict;
 
 // What a meter file holds: its partitions, its tasks, and where its first word or release begins, or its end. On a refusal all of that is 0.
-#[derive(Drop)]
+#[derive(Clone, Copy)]
 pub struct MeterFile {
     pub table: Table,
     pub tasks: Tasks,
@@ -22,7 +24,7 @@ pub struct MeterFile {
 }
 
 // What the records so far hold.
-#[derive(Drop)]
+#[derive(Clone, Copy)]
 struct Held {
     table: Table,
     tasks: Tasks,

@@ -14,10 +14,10 @@ pub loop-i-init : goal.loop-i-init
 loop-i-init c = (zero-le, pass_begins _)
 
 pub returns-then-not-partition_in_range : goal.returns-then-not-partition_in_range
-returns-then-not-partition_in_range c = bad_table_lem _ _ _ _ c.if-n-eq0.false c.if-n-gt16.false _ (fails_here _ _ c.loop-i.invariant.1 _ _ c.loop-i-test.true c.partition_in_range.ensures c.if-not-partition_in_range.true-raw)
+returns-then-not-partition_in_range c = bad_table_lem _ _ _ _ c.if-n-eq0.false c.if-n-gt16.false _ (fails_here _ _ c.loop-i.invariant.1 _ _ c.loop-i-test.true c.partition_in_range.ensures c.if-not-partition_in_range.true)
 
 pub loop-i-preserved : goal.loop-i-preserved
-loop-i-preserved c = (omega arith, pass_next _ _ c.loop-i.invariant.1 _ c.partition_in_range.ensures c.if-not-partition_in_range.false-raw)
+loop-i-preserved c = (omega arith, pass_next _ _ c.loop-i.invariant.1 _ c.partition_in_range.ensures c.if-not-partition_in_range.false)
 
 pub returns : goal.returns
 returns c = good-table _ _ _ _ c.if-n-eq0.false c.if-n-gt16.false (none_fails _ _ c.loop-i.invariant.1 _ c.loop-i-test.false c.loop-i.invariant.0)
