@@ -18,7 +18,7 @@ pub fn nandoquip_table_of(parts: &[Part]) -> Table
     };
     let n = if count < 16 { count } else { 16 };
     for i in 0..n {
-        let p = &parts[i];
+        let p = parts[i];
         t.period[i] = p.period;
         t.budget[i] = p.budget;
         t.phase[i] = p.phase;
