@@ -1,11 +1,10 @@
 -- A record, as the code comes to know it: test by test, and then what the reader says.
 use Prim.Native.Nat.{ℕ, ◌+◌, ◌-◌, ◌≤◌, ◌<◌}
 use mathlib.Core.Path.{◌≡◌, refl, sym, ◌∙◌, ap, ap₂, subst}
-use mathlib.Core.Bool.{Bool, true, false, not}
+use mathlib.Core.Bool.{Bool, true, false}
 use mathlib.Core.List.{List, [], ◌∷◌}
 use mathlib.Core.Option.{Option, some, none}
 use native.Mathlib.Omega.{arith}
-use borrow.Author.Tests.{not-true, not-false}
 use lib.Dec.{leb}
 use lib.ListN.{length, take, drop}
 use Rattle.basis.specs.Words.{has}
@@ -36,12 +35,12 @@ module _ (kinds : List ℕ) (before : ℕ) (file : List ℕ) (at : ℕ) where
       there : at + 4 ≤ length file
       there = omega arith
 
-      pub kind_not_held : not holds ≡ true → false ≡ is_record kinds before file at
-      kind_not_held e = not_held kinds before file at there (ap (has kinds) (sym kind_is) ∙ sym held-is ∙ not-true holds e)
+      pub kind_not_held : holds ≡ false → false ≡ is_record kinds before file at
+      kind_not_held e = not_held kinds before file at there (ap (has kinds) (sym kind_is) ∙ sym held-is ∙ e)
 
-      module _ (held : not holds ≡ false) (asked : Shape) (Asked-is : shape_as asked ≡ form kind) where
+      module _ (held : holds ≡ true) (asked : Shape) (Asked-is : shape_as asked ≡ form kind) where
         is_held : has kinds (kind_at file at) ≡ true
-        is_held = ap (has kinds) (sym kind_is) ∙ sym held-is ∙ not-false holds held
+        is_held = ap (has kinds) (sym kind_is) ∙ sym held-is ∙ held
 
         same_form : shape_as asked ≡ form (kind_at file at)
         same_form = Asked-is ∙ ap form kind_is
@@ -80,13 +79,13 @@ module _ (kinds : List ℕ) (before : ℕ) (file : List ℕ) (at : ℕ) where
   limit_passed l = sym (ap says (over_limit_lem kinds before file at l) ∙ rw (file_alone (some most_bytes)))
 
   module _ (small : length file ≤ most_bytes) (is : Bool) (is-is : is ≡ is_record kinds before file at) where
-    pub refused_here : not is ≡ true → ReadRecordIs kinds before file at (read.Refused (BadRecord at))
+    pub refused_here : is ≡ false → ReadRecordIs kinds before file at (read.Refused (BadRecord at))
     unfolding says unless_refused
-    refused_here e = sym (ap says (no_record kinds before file at small (sym is-is ∙ not-true is e)) ∙ rw (file_alone (some at)))
+    refused_here e = sym (ap says (no_record kinds before file at small (sym is-is ∙ e)) ∙ rw (file_alone (some at)))
 
-    module _ (good : not is ≡ false) where
+    module _ (good : is ≡ true) where
       whole : Whole kinds before file at
-      whole = record_whole kinds before file at (sym is-is ∙ not-false is good)
+      whole = record_whole kinds before file at (sym is-is ∙ good)
 
       pub kind_there : at + 4 ≤ length file
       kind_there = whole.head
@@ -98,7 +97,7 @@ module _ (kinds : List ℕ) (before : ℕ) (file : List ℕ) (at : ℕ) where
       unfolding says unless_refused
       read_here len kind e d =
           (λ i. gives (record { kind = d i; next = at + 2 + e i }))
-          ∙ sym (ap says (a_record kinds before file at small (sym is-is ∙ not-false is good)) ∙ rw (file_alone none))
+          ∙ sym (ap says (a_record kinds before file at small (sym is-is ∙ good)) ∙ rw (file_alone none))
 
   -- ---- back from what it says
   pub record Told (kind next : ℕ) : Type 0 where
