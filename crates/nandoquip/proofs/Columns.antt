@@ -1,5 +1,5 @@
 -- The table of the first records, as a loop over them makes it.
-use Rattle.std.proofs.Common.{ℕ, ◌+◌, ◌≤◌, ◌<◌, ◌≡◌, refl, sym, ◌∙◌, ap, List, [], ◌∷◌, ◌++◌, length, get_or, take, set, add-one, arith}
+use Rattle.std.proofs.Common.{ℕ, ◌+◌, ◌≤◌, ◌<◌, ◌≡◌, sym, ◌∙◌, ap, List, [], ◌∷◌, length, get_or, take, set, add-one, arith}
 use Rattle.std.specs.Prelude.{map}
 use mathlib.Core.List.{map-append}
 use native.Mathlib.Nat.{le_of_lt}
@@ -32,26 +32,26 @@ column-next f ps i l h =
 
 pub table-next : (t : Table) (ps : List Part) (i : ℕ) → t ≡ table_to i ps → i < length ps → i < 16
     → record {
-        period = set t.period i (get_or ps i no_part).period;
-        budget = set t.budget i (get_or ps i no_part).budget;
-        phase = set t.phase i (get_or ps i no_part).phase;
-        count = t.count;
+      period = set t.period i (get_or ps i no_part).period;
+      budget = set t.budget i (get_or ps i no_part).budget;
+      phase = set t.phase i (get_or ps i no_part).phase;
+      count = t.count;
     } ≡ table_to (i + 1) ps
 table-next t ps i is l h =
     ap one_more is
     ∙ (λ k. record {
-        period = column-next (λ (p : Part). p.period) ps i l h k;
-        budget = column-next (λ (p : Part). p.budget) ps i l h k;
-        phase = column-next (λ (p : Part). p.phase) ps i l h k;
-        count = length ps;
+      period = column-next (λ (p : Part). p.period) ps i l h k;
+      budget = column-next (λ (p : Part). p.budget) ps i l h k;
+      phase = column-next (λ (p : Part). p.phase) ps i l h k;
+      count = length ps;
     })
   where
     one_more : Table → Table
     one_more u = record {
-        period = set u.period i (get_or ps i no_part).period;
-        budget = set u.budget i (get_or ps i no_part).budget;
-        phase = set u.phase i (get_or ps i no_part).phase;
-        count = u.count;
+      period = set u.period i (get_or ps i no_part).period;
+      budget = set u.budget i (get_or ps i no_part).budget;
+      phase = set u.phase i (get_or ps i no_part).phase;
+      count = u.count;
     }
 
 -- the table is made where all records are in it, or sixteen of them

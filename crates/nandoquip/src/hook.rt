@@ -36,11 +36,7 @@ pub fn nandoquip_tick(state: &mut State, parts: &[Part], word: u32) -> Picked
 }
 
 // The tick for a given pick, on the state where it stands.
-pub fn nandoquip_tick_for(
-    state: &mut State,
-    parts: &[Part],
-    pick: usize,
-) -> RefusalNumbers
+pub fn nandoquip_tick_for(state: &mut State, parts: &[Part], pick: usize) -> RefusalNumbers
     ensures { HookTickForIs parts.now state.old pick result state.new }
 {
     let done = turn_for(*state, nandoquip_table_of(parts), pick);
@@ -49,11 +45,7 @@ pub fn nandoquip_tick_for(
 }
 
 // A release, on the state where it stands.
-pub fn nandoquip_release(
-    state: &mut State,
-    parts: &[Part],
-    index: usize,
-) -> RefusalNumbers
+pub fn nandoquip_release(state: &mut State, parts: &[Part], index: usize) -> RefusalNumbers
     ensures { HookReleaseIs parts.now state.old index result state.new }
 {
     let done = released(*state, nandoquip_table_of(parts), index);

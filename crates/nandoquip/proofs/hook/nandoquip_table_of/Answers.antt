@@ -1,6 +1,5 @@
-use Rattle.std.proofs.Common.{ℕ, ◌≡◌, ◌<◌, ◌≤◌, ◌∙◌, refl, ap, length, arith}
+use Rattle.std.proofs.Common.{◌∙◌, refl, arith}
 use Rattle.basis.specs.Words.{padded}
-use Rattle.nandoquip.specs.Records.{table_to}
 use Rattle.nandoquip.proofs.Columns.{table-next, table_small, table_large}
 use Rattle.nandoquip.proofs.hook.nandoquip_table_of.Goals as goal
 use Rattle.nandoquip.proofs.hook.nandoquip_table_of.Goals.{then-count-lt16, else-count-lt16}
@@ -19,5 +18,6 @@ loop-i-preserved c = table-next c.loop-i.t c.args.parts.now c.loop-i.i c.loop-i.
 
 pub returns : goal.returns
 returns c = c.loop-i.invariant ∙ elim c.if-count-lt16.branch [
-    then-count-lt16 w ↦ table_small c.args.parts.now c.loop-i.i (omega arith) (omega arith)
-    | else-count-lt16 w ↦ table_large c.args.parts.now c.loop-i.i (omega arith) ]
+  | then-count-lt16 w ↦ table_small c.args.parts.now c.loop-i.i (omega arith) (omega arith)
+  | else-count-lt16 w ↦ table_large c.args.parts.now c.loop-i.i (omega arith)
+]

@@ -1,5 +1,5 @@
 -- The table holds the first i records.
-use Rattle.std.proofs.Common.{◌≡◌, length}
+use Rattle.std.proofs.Common.{◌≡◌}
 use Rattle.nandoquip.specs.Records.{table_to}
 use Rattle.nandoquip.proofs.hook.nandoquip_table_of.Given as goal
 
