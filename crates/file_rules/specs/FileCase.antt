@@ -2,7 +2,6 @@
 use Rattle.std.specs.Prelude.{ℕ, ◌≡◌, refl, List, [], ◌∷◌, ◌++◌, length}
 use Rattle.basis.specs.Words.{has}
 use Rattle.basis.specs.Rows.{Row, ◌is◌, Hold, answer}
-use Rattle.rules.specs.Release.{release}
 use Rattle.rules.specs.Refusals.{refusal}
 use Rattle.file_rules.specs.Worked.{file_worked}
 use Rattle.file_rules.specs.MeterFile.{meter_kinds, form, is_record, malformed_at, payload, read_from, reading, refusal_of}
@@ -124,10 +123,6 @@ responses =
 pub responses_hold : Hold responses
 unfolding file_worked
 responses_hold = refl
-
--- all of them
-pub files_hold : Hold records × Hold refused_files × Hold schedules × Hold responses
-files_hold = (records_hold, refused_files_hold, schedules_hold, responses_hold)
 
 -- a byte above the limit, whatever the bytes; and as many as the limit
 pub over_the_limit : (file : List ℕ) → length file ≡ 65537 → schedule_output file ≡ ascii "refused 8 at 65536\n"

@@ -1,39 +1,43 @@
 // Runs both printers over the files that its arguments name: for each its name, its schedule and its response times.
-use libc::STDOUT_FILENO;
+#![tactic(auto)]
+
+use input::read_full;
 use response_printing::print_response;
 use schedule_printing::print_schedule;
+use std::io::Write;
+use std::rt::Files;
+use std::{env, fs, io};
 
-fn text(words: &[u8]) {
-    io::write_all(STDOUT_FILENO, words);
+fn text(rt: &impl Print, words: &[u8]) -> io::Result<()> {
+    io::writer(rt).write_all(words)
 }
 
 // Both outputs of one file.
-fn print_both(file: &[u8]) {
-    print_schedule(STDOUT_FILENO, file);
-    text(b"--\n");
-    print_response(STDOUT_FILENO, file);
+fn print_both(rt: &impl Print, file: &[u8]) -> io::Result<()> {
+    print_schedule(&mut io::writer(rt), file)?;
+    text(rt, b"--\n")?;
+    print_response(&mut io::writer(rt), file)?;
+    Ok(())
 }
 
 // The file of one name; one that can't be opened is said so.
-fn print_named(name: &[u8]) {
-    text(b"== ");
-    text(name);
-    text(b"\n");
-    let fd = os::open_read(name);
-    if fd < 0 {
-        text(b"can't be opened\n");
-        return;
+fn print_named(rt: &(impl Files + Print), name: &str) -> io::Result<()> {
+    text(rt, b"== ")?;
+    text(rt, name.as_bytes())?;
+    text(rt, b"\n")?;
+    match fs::open(rt, name) {
+        Err(_) => text(rt, b"can't be opened\n"),
+        Ok(mut file) => {
+            let mut space = [0u8; 65537];
+            let length = read_full(&mut file, &mut space)?;
+            print_both(rt, &space[..length])
+        }
     }
-    let mut space = [0u8; 65537];
-    let length = io::read_full(fd, &mut space);
-    libc::close(fd);
-    print_both(&space[..length]);
 }
 
-fn main() {
-    for i in 1..os::arg_count() {
-        let mut space = [0u8; 256];
-        let length = os::arg(i, &mut space);
-        print_named(&space[..length]);
+fn main(rt: HostRuntime) -> io::Result<()> {
+    for name in env::args(&rt)?.skip(1) {
+        print_named(&rt, name.as_str())?;
     }
+    Ok(())
 }

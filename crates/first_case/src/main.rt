@@ -1,20 +1,22 @@
 // The first case of 01: (4,1) and (6,2), phases 0, from a fresh start over six words. Prints the six picks as numbers, 255 for idle.
-use libc::STDOUT_FILENO;
+#![tactic(auto)]
+
 use rules::Table;
 use runs::run;
 use scheduler::State;
+use std::io;
 use verdicts::Verdict;
 
 // A pick and a newline, in decimal.
-fn show(pick: u8) {
-    io::print_decimal(STDOUT_FILENO, pick as u64);
-    io::write_all(STDOUT_FILENO, b"\n");
+fn show(rt: &impl Print, pick: u8) -> io::Result<()> {
+    println!(rt; "{pick}")
 }
 
-fn show_all(picks: &[u8]) {
+fn show_all(rt: &impl Print, picks: &[u8]) -> io::Result<()> {
     for i in 0..picks.len() {
-        show(picks[i]);
+        show(rt, picks[i])?;
     }
+    Ok(())
 }
 
 // A field of the two partitions; the other places are 0.
@@ -25,7 +27,7 @@ fn two(x: u16, y: u16) -> [u16; 16] {
     field
 }
 
-fn main() {
+fn main(rt: HostRuntime) -> io::Result<()> {
     let period = two(4, 6);
     let budget = two(1, 2);
     let phase = two(0, 0);
@@ -45,8 +47,7 @@ fn main() {
     let ran = run(start, t, &words, &mut picks);
     let verdict = ran.verdict;
     let Verdict::Good = verdict else {
-        io::write_all(STDOUT_FILENO, b"refused\n");
-        return;
+        return println!(rt; "refused");
     };
-    show_all(&picks);
+    show_all(&rt, &picks)
 }

@@ -1,9 +1,10 @@
 -- The line of a refusal in a buffer of 64 bytes or more: it is written, and counted.
 use Prim.Native.Nat.{ℕ, ◌≤◌}
 use mathlib.Core.Path.{◌≡◌, sym, ◌∙◌, ap}
-use mathlib.Core.List.{List}
+use mathlib.Core.List.{List, ◌++◌}
 use native.Mathlib.Omega.{arith}
-use lib.ListN.{length, drop, length-append}
+use lib.ListN.{length, take, drop, length-append}
+use lib.Seq.{take-append_seam}
 use Rattle.rules.specs.Refusals.{refused_as}
 use Rattle.file_rules.specs.Printers.{refused_line}
 use Rattle.rules.specs.declared.Refusal.{Refusal}
@@ -35,6 +36,18 @@ module _ (q : Refusal) (buffer : List ℕ) (room : 64 ≤ length buffer) (r : Wr
       let whole = ap length said.1 ∙ length-append (bytes_of (line.Refused q)) (drop (length (bytes_of (line.Refused q))) buffer) in
       let count : n ≡ length (bytes_of (line.Refused q)) = same (sym e ∙ said.0) in
       omega (arith, whole, count)
+    where
+      same : {m k : ℕ} → written.Bytes m ≡ written.Bytes k → m ≡ k
+      same d = cc
+
+  pub refusal_bytes : (n : ℕ) → r ≡ written.Bytes n → take n last ≡ refused_line (refused_as q)
+  unfolding bytes_of
+  refusal_bytes n e =
+      let said = always_written (line.Refused q) buffer r last room is in
+      let count : n ≡ length (bytes_of (line.Refused q)) = same (sym e ∙ said.0) in
+      ap (take n) said.1
+      ∙ ap (λ (k : ℕ). take k (bytes_of (line.Refused q) ++ drop (length (bytes_of (line.Refused q))) buffer)) count
+      ∙ take-append_seam (bytes_of (line.Refused q)) (drop (length (bytes_of (line.Refused q))) buffer)
     where
       same : {m k : ℕ} → written.Bytes m ≡ written.Bytes k → m ≡ k
       same d = cc

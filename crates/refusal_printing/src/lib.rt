@@ -1,18 +1,27 @@
-// The line of a refusal, to a descriptor.
+// The line of a refusal, to a writer.
+#![tactic(auto)]
+
+ghost use Rattle.std.specs.Prelude.{IfOk, OnOk};
+ghost use Rattle.std.specs.Io.KnownBytes.{Appends};
+ghost use Rattle.rules.specs.Refusals.{refused_as};
+ghost use Rattle.file_rules.specs.Printers.{refused_line};
 ghost use Rattle.refusal_printing.specs.Promises.{PrintRefusalIs};
 
 use lines::{Line, Written, write_line};
 use rules::Refusal;
+use std::io;
+use std::io::Write;
 
-// Writes the line, and answers how many bytes it has.
-pub fn print_refusal(fd: i32, why: Refusal) -> usize
-    ensures { PrintRefusalIs why result }
+// Writes the line, and answers how many bytes it has. An error is the writer's own, and then the writer may hold a part of the line.
+pub fn print_refusal<W: Write>(to: &mut W, why: Refusal) -> io::Result<usize>
+    ensures count { IfOk result (λ n. PrintRefusalIs why n) }
+    ensures bytes { OnOk result (Appends (W.contents to.old) (W.contents to.new) (refused_line (refused_as why))) }
 {
     let mut line = [0u8; 64];
     let written = write_line(Line::Refused(why), &mut line);
     let Written::Bytes(length) = written else {
-        return 0;
+        return Ok(0);
     };
-    io::write_all(fd, &line[..length]);
-    length
+    to.write_all(&line[..length])?;
+    Ok(length)
 }

@@ -10,7 +10,6 @@ use Rattle.rules.specs.Release.{release}
 use Rattle.scheduler.specs.States.{state_bad, pairs, decision_of, tick_of}
 use Rattle.rules.specs.Refusals.{Refused, refused_as, Ground, malformed, refusal}
 use Rattle.file_rules.specs.MeterFile.{two, four, length_at, kind_at, payload_at, next_at, meter_kinds, form, malformed_at}
-use Rattle.rules.specs.Pick.{decision}
 use Rattle.file_rules.specs.Events as rule
 use Rattle.rules.specs.declared.Refusal.{Refusal}
 use Rattle.rules.specs.declared.Table.{Table}

@@ -1,5 +1,7 @@
-// The response times of a file's tasks, row by row into a buffer, to a descriptor. The answer is how many bytes they have.
-ghost use Rattle.std.specs.Prelude.{◌≡◌, length};
+// The response times of a file's tasks, row by row into a buffer, to a writer. The answer is how many bytes they have.
+#![tactic(auto)]
+
+ghost use Rattle.std.specs.Prelude.{◌≡◌, length, IfOk};
 ghost use Rattle.response_lines.specs.declared.Cursor.TheVariants.{Header};
 ghost use Rattle.outputs.specs.ResponseMoments.{RowAt};
 ghost use Rattle.response_printing.specs.Promises.{RowsAre, PrintResponseIs};
@@ -7,6 +9,8 @@ ghost use Rattle.response_printing.specs.Promises.{RowsAre, PrintResponseIs};
 use refusal_printing::print_refusal;
 use response_lines::{Cursor, Made, Next, response_line};
 use rules::{Table, Tasks};
+use std::io;
+use std::io::Write;
 use verdicts::Verdict;
 use whole_file::judge_file;
 
@@ -30,19 +34,19 @@ fn rows_into(t: Table, tasks: Tasks, out: &mut [u8]) -> usize
     }
 }
 
-// The response times of a file's tasks, refused or not.
-pub fn print_response(fd: i32, file: &[u8]) -> usize
-    ensures { PrintResponseIs file.now result }
+// The response times of a file's tasks, refused or not. An error is the writer's own, and then the writer may hold a part of the output.
+pub fn print_response<W: Write>(to: &mut W, file: &[u8]) -> io::Result<usize>
+    ensures count { IfOk result (λ n. PrintResponseIs file.now n) }
 {
     let held = judge_file(file);
     let verdict = held.verdict;
     if let Verdict::Refused(why) = verdict {
-        return print_refusal(fd, why);
+        return print_refusal(to, why);
     }
     let table = held.table;
     let tasks = held.tasks;
     let mut out = [0u8; 8192];
     let used = rows_into(table, tasks, &mut out);
-    io::write_all(fd, &out[..used]);
-    used
+    to.write_all(&out[..used])?;
+    Ok(used)
 }

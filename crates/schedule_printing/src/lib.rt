@@ -1,5 +1,7 @@
-// The whole schedule of a file, page by page through a buffer, to a descriptor. The answer is how many bytes it has.
-ghost use Rattle.std.specs.Prelude.{◌≡◌, length};
+// The whole schedule of a file, page by page through a buffer, to a writer. The answer is how many bytes it has.
+#![tactic(auto)]
+
+ghost use Rattle.std.specs.Prelude.{◌≡◌, length, IfOk};
 ghost use Rattle.scheduler.specs.States.{pairs};
 ghost use Rattle.schedule_lines.specs.declared.Cursor.TheVariants.{Header};
 ghost use Rattle.outputs.specs.ScheduleMoments.{At, Moment, to_write};
@@ -10,11 +12,13 @@ use refusal_printing::print_refusal;
 use rules::{Refusal, Table};
 use schedule_lines::{Cursor, Made, Next, schedule_line};
 use scheduler::State;
+use std::io;
+use std::io::Write;
 use verdicts::Verdict;
 use whole_file::judge_file;
 
 // What is to come after a page: lines from a cursor on, nothing, or the line of a refusal.
-#[derive(Drop)]
+#[derive(Clone, Copy)]
 enum Rest {
     Lines(Cursor),
     Nothing,
@@ -22,7 +26,7 @@ enum Rest {
 }
 
 // How many bytes of its buffer a page takes, the state after it, and what is to come.
-#[derive(Drop)]
+#[derive(Clone, Copy)]
 struct Page {
     used: usize,
     state: State,
@@ -70,17 +74,24 @@ fn fill_page(file: &[u8], t: Table, start: State, from: Cursor, out: &mut [u8]) 
 }
 
 // Writes the bytes out, and says how many they are.
-fn send(fd: i32, bytes: &[u8]) -> usize
-    ensures { result ≡ length bytes.now }
+fn send<W: Write>(to: &mut W, bytes: &[u8]) -> io::Result<usize>
+    ensures count { IfOk result (λ n. n ≡ length bytes.now) }
 {
-    io::write_all(fd, bytes);
-    bytes.len()
+    to.write_all(bytes)?;
+    Ok(bytes.len())
 }
 
 // Page by page, until there is no more or a line is refused.
-fn print_pages(fd: i32, file: &[u8], t: Table, start: State, events: usize, out: &mut [u8]) -> usize
+fn print_pages<W: Write>(
+    to: &mut W,
+    file: &[u8],
+    t: Table,
+    start: State,
+    events: usize,
+    out: &mut [u8],
+) -> io::Result<usize>
     requires { (length out.old ≡ 4096) × (Moment file.now t (pairs start) events 0) }
-    ensures { result ≡ length (to_write file.now t (pairs start) (Header events)) }
+    ensures count { IfOk result (λ n. n ≡ length (to_write file.now t (pairs start) (Header events))) }
 {
     let mut state = start;
     let mut cursor = Cursor::Header(events);
@@ -88,7 +99,7 @@ fn print_pages(fd: i32, file: &[u8], t: Table, start: State, events: usize, out:
     loop {
         let page = fill_page(file, t, state, cursor, out);
         let used = page.used;
-        sent += send(fd, &out[..used]);
+        sent += send(to, &out[..used])?;
         state = page.state;
         let rest = page.rest;
         match rest {
@@ -96,23 +107,23 @@ fn print_pages(fd: i32, file: &[u8], t: Table, start: State, events: usize, out:
                 cursor = next;
             }
             Rest::Nothing => {
-                return sent;
+                return Ok(sent);
             }
             Rest::Refused(why) => {
-                return sent + print_refusal(fd, why);
+                return Ok(sent + print_refusal(to, why)?);
             }
         }
     }
 }
 
-// The whole schedule of a file, refused or not.
-pub fn print_schedule(fd: i32, file: &[u8]) -> usize
-    ensures { PrintScheduleIs file.now result }
+// The whole schedule of a file, refused or not. An error is the writer's own, and then the writer may hold a part of the output.
+pub fn print_schedule<W: Write>(to: &mut W, file: &[u8]) -> io::Result<usize>
+    ensures count { IfOk result (λ n. PrintScheduleIs file.now n) }
 {
     let held = judge_file(file);
     let verdict = held.verdict;
     if let Verdict::Refused(why) = verdict {
-        return print_refusal(fd, why);
+        return print_refusal(to, why);
     }
     let table = held.table;
     let zeros = [0u16; 16];
@@ -120,5 +131,5 @@ pub fn print_schedule(fd: i32, file: &[u8]) -> usize
     let begun = old.fresh(table);
     let start = begun.state;
     let mut out = [0u8; 4096];
-    print_pages(fd, file, table, start, held.events, &mut out)
+    print_pages(to, file, table, start, held.events, &mut out)
 }

@@ -1,17 +1,20 @@
 // Figures of 000 and 01, run through the calls: each is printed beside what the paper says.
+#![tactic(auto)]
+
 ghost use Rattle.std.specs.Prelude.{◌<◌, ◌≤◌};
 
 use draw::weights;
-use libc::STDOUT_FILENO;
 use responses::{Response, task_response};
 use rules::{Table, Tasks};
 use scheduler::State;
 use standing::{Length, response};
+use std::io;
+use std::io::Write;
 
 // ---- printing
 
-fn text(words: &[u8]) {
-    io::write_all(STDOUT_FILENO, words);
+fn text(rt: &impl Print, words: &[u8]) -> io::Result<()> {
+    io::writer(rt).write_all(words)
 }
 
 // The last digit.
@@ -20,22 +23,22 @@ fn digit(x: u64) -> u8 {
 }
 
 // A number, with a space in front.
-fn number(x: u64) {
-    text(b" ");
-    io::print_decimal(STDOUT_FILENO, x);
+fn number(rt: &impl Print, x: u64) -> io::Result<()> {
+    text(rt, b" ")?;
+    print!(rt; "{x}")
 }
 
 // Hundredths, and tenths, with two places after the point as 000 prints them.
-fn hundredths(x: u64) {
-    number(x / 100);
+fn hundredths(rt: &impl Print, x: u64) -> io::Result<()> {
+    number(rt, x / 100)?;
     let places = [46u8, digit(x / 10), digit(x)];
-    text(&places);
+    text(rt, &places)
 }
 
-fn tenths(x: u64) {
-    number(x / 10);
+fn tenths(rt: &impl Print, x: u64) -> io::Result<()> {
+    number(rt, x / 10)?;
     let places = [46u8, digit(x), 48];
-    text(&places);
+    text(rt, &places)
 }
 
 // ---- 000, tables I and II, in tenths of a millisecond
@@ -102,25 +105,25 @@ fn table_two() -> [u64; 25] {
 }
 
 // A task by 000's numbers, and its response.
-fn show_response(i: usize, said: Response, paper: u64) {
+fn show_response(rt: &impl Print, i: usize, said: Response, paper: u64) -> io::Result<()> {
     let Response::Ticks(ticks) = said else {
-        text(b"refused\n");
-        return;
+        return text(rt, b"refused\n");
     };
-    number((i / 5 + 1) as u64);
-    text(b",");
+    number(rt, (i / 5 + 1) as u64)?;
+    text(rt, b",")?;
     let rank = [digit((i % 5 + 1) as u64)];
-    text(&rank);
-    tenths(ticks);
-    hundredths(paper);
-    text(b"\n");
+    text(rt, &rank)?;
+    tenths(rt, ticks)?;
+    hundredths(rt, paper)?;
+    text(rt, b"\n")
 }
 
-fn show_table_two(t: Table, tasks: Tasks) {
+fn show_table_two(rt: &impl Print, t: Table, tasks: Tasks) -> io::Result<()> {
     let paper = table_two();
     for i in 0..25 {
-        show_response(i, task_response(t, tasks, i), paper[i]);
+        show_response(rt, i, task_response(t, tasks, i), paper[i])?;
     }
+    Ok(())
 }
 
 // ---- 000, the car of figure 5, in milliseconds
@@ -138,53 +141,53 @@ fn car() -> Table {
 }
 
 // A partition by 000's numbers, and its R.
-fn show_r(h: usize, said: Length, paper: u64)
+fn show_r(rt: &impl Print, h: usize, said: Length, paper: u64) -> io::Result<()>
     requires { h < 16 }
 {
     let Length::Within(ticks) = said else {
-        text(b"no R within its period\n");
-        return;
+        return text(rt, b"no R within its period\n");
     };
-    number(h as u64 + 1);
-    number(ticks);
-    number(paper);
-    text(b"\n");
+    number(rt, h as u64 + 1)?;
+    number(rt, ticks)?;
+    number(rt, paper)?;
+    text(rt, b"\n")
 }
 
-fn show_rs(t: Table) {
+fn show_rs(rt: &impl Print, t: Table) -> io::Result<()> {
     let paper = [1u64, 12, 15, 20];
     for h in 0..4 {
-        show_r(h, response(t, h), paper[h]);
+        show_r(rt, h, response(t, h), paper[h])?;
     }
+    Ok(())
 }
 
 // ---- the weights of a fresh start, beside 65,536 times the share that 000 gives
 
 // A candidate by 000's numbers.
-fn show_name(pick: u8) {
+fn show_name(rt: &impl Print, pick: u8) -> io::Result<()> {
     if pick == 255 {
-        text(b" idle");
-        return;
+        return text(rt, b" idle");
     }
-    number(pick as u64 + 1);
+    number(rt, pick as u64 + 1)
 }
 
-fn show_weight(pick: u8, weight: u32, share: u64) {
-    show_name(pick);
-    number(weight as u64);
-    hundredths(share);
-    text(b"\n");
+fn show_weight(rt: &impl Print, pick: u8, weight: u32, share: u64) -> io::Result<()> {
+    show_name(rt, pick)?;
+    number(rt, weight as u64)?;
+    hundredths(rt, share)?;
+    text(rt, b"\n")
 }
 
-fn show_weights(list: [u8; 17], found: [u32; 17], shares: [u64; 6], listed: usize)
+fn show_weights(rt: &impl Print, list: [u8; 17], found: [u32; 17], shares: [u64; 6], listed: usize) -> io::Result<()>
     requires { listed ≤ 6 }
 {
     for i in 0..listed {
-        show_weight(list[i], found[i], shares[i]);
+        show_weight(rt, list[i], found[i], shares[i])?;
     }
+    Ok(())
 }
 
-fn show_fresh_weights(t: Table, shares: [u64; 6], listed: usize)
+fn show_fresh_weights(rt: &impl Print, t: Table, shares: [u64; 6], listed: usize) -> io::Result<()>
     requires { listed ≤ 6 }
 {
     let b = [0u16; 16];
@@ -195,12 +198,12 @@ fn show_fresh_weights(t: Table, shares: [u64; 6], listed: usize)
     let weighed = weights(t, &start.b, &start.o);
     let list = weighed.list;
     let found = weighed.weights;
-    show_weights(list, found, shares, listed);
+    show_weights(rt, list, found, shares, listed)
 }
 
 // ---- a task whose r is 2^32
 
-fn show_late() {
+fn show_late(rt: &impl Print) -> io::Result<()> {
     let mut period = [0u16; 16];
     period[0] = 4096;
     let mut budget = [0u16; 16];
@@ -223,29 +226,28 @@ fn show_late() {
         cost,
     };
     let Response::Ticks(ticks) = task_response(t, tasks, 16) else {
-        text(b"refused\n");
-        return;
+        return text(rt, b"refused\n");
     };
-    number(ticks);
-    number(0);
-    text(b"\n");
+    number(rt, ticks)?;
+    number(rt, 0)?;
+    text(rt, b"\n")
 }
 
-fn main() {
+fn main(rt: HostRuntime) -> io::Result<()> {
     let five = five_partitions();
     let tasks = five_tasks_each();
-    text(b"000, table II: responses of tasks in ms, here and there\n");
-    show_table_two(five, tasks);
-    text(b"000, figure 5: R in ms, here and in 01\n");
-    show_rs(car());
-    text(b"000, figure 5: fresh weights, here and 65536 times 000's share\n");
-    show_fresh_weights(car(), [655360, 3276800, 655360, 655360, 1310720, 0], 5);
-    text(b"000, table I: fresh weights, here and 65536 times 000's share\n");
-    show_fresh_weights(
+    text(&rt, b"000, table II: responses of tasks in ms, here and there\n")?;
+    show_table_two(&rt, five, tasks)?;
+    text(&rt, b"000, figure 5: R in ms, here and in 01\n")?;
+    show_rs(&rt, car())?;
+    text(&rt, b"000, figure 5: fresh weights, here and 65536 times 000's share\n")?;
+    show_fresh_weights(&rt, car(), [655360, 3276800, 655360, 655360, 1310720, 0], 5)?;
+    text(&rt, b"000, table I: fresh weights, here and 65536 times 000's share\n")?;
+    show_fresh_weights(&rt, 
         five,
         [1048576, 1048576, 1048576, 1048576, 1048576, 1310720],
         6,
-    );
-    text(b"a task whose r is 2^32: its response, here and in 01 (0 for late)\n");
-    show_late();
+    )?;
+    text(&rt, b"a task whose r is 2^32: its response, here and in 01 (0 for late)\n")?;
+    show_late(&rt)
 }
