@@ -125,10 +125,6 @@ pub responses_hold : Hold responses
 unfolding file_worked
 responses_hold = refl
 
--- all of them
-pub files_hold : Hold records × Hold refused_files × Hold schedules × Hold responses
-files_hold = (records_hold, refused_files_hold, schedules_hold, responses_hold)
-
 -- a byte above the limit, whatever the bytes; and as many as the limit
 pub over_the_limit : (file : List ℕ) → length file ≡ 65537 → schedule_output file ≡ ascii "refused 8 at 65536\n"
 unfolding refusal reading refusal_of decimal_within unless_refused_file schedule_output

@@ -6,8 +6,7 @@ use rules::{Part, Table};
 use scheduler::State;
 
 // The table as the core has it: how many records there are, and the first sixteen.
-#[unsafe(no_mangle)]
-pub extern "C" fn nandoquip_table_of(parts: &[Part]) -> Table
+pub fn nandoquip_table_of(parts: &[Part]) -> Table
     ensures { TableOfIs parts.now result }
 {
     let count = parts.len();
@@ -28,8 +27,7 @@ pub extern "C" fn nandoquip_table_of(parts: &[Part]) -> Table
 }
 
 // One decision by the word, and its tick, on the state where it stands.
-#[unsafe(no_mangle)]
-pub extern "C" fn nandoquip_tick(state: &mut State, parts: &[Part], word: u32) -> Picked
+pub fn nandoquip_tick(state: &mut State, parts: &[Part], word: u32) -> Picked
     ensures { HookTickIs parts.now state.old word result state.new }
 {
     let done = turn(*state, nandoquip_table_of(parts), word);
@@ -38,12 +36,7 @@ pub extern "C" fn nandoquip_tick(state: &mut State, parts: &[Part], word: u32) -
 }
 
 // The tick for a given pick, on the state where it stands.
-#[unsafe(no_mangle)]
-pub extern "C" fn nandoquip_tick_for(
-    state: &mut State,
-    parts: &[Part],
-    pick: usize,
-) -> RefusalNumbers
+pub fn nandoquip_tick_for(state: &mut State, parts: &[Part], pick: usize) -> RefusalNumbers
     ensures { HookTickForIs parts.now state.old pick result state.new }
 {
     let done = turn_for(*state, nandoquip_table_of(parts), pick);
@@ -52,12 +45,7 @@ pub extern "C" fn nandoquip_tick_for(
 }
 
 // A release, on the state where it stands.
-#[unsafe(no_mangle)]
-pub extern "C" fn nandoquip_release(
-    state: &mut State,
-    parts: &[Part],
-    index: usize,
-) -> RefusalNumbers
+pub fn nandoquip_release(state: &mut State, parts: &[Part], index: usize) -> RefusalNumbers
     ensures { HookReleaseIs parts.now state.old index result state.new }
 {
     let done = released(*state, nandoquip_table_of(parts), index);

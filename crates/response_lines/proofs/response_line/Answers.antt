@@ -8,4 +8,4 @@ pub returns-in-Header : goal.returns-in-Header
 returns-in-Header c = header_comes _ _ _ c.args.buf.now c.plain_line.result _ c.in-Header.is c.plain_line.ensures
 
 pub returns-else-i-tasks : goal.returns-else-i-tasks
-returns-else-i-tasks c = row_comes _ _ _ c.args.buf.now c.before.before.row_line.result _ _ c.in-Task.is c.if-i-tasks.false c.before.before.row_line.ensures
+returns-else-i-tasks c = row_comes _ _ _ c.args.buf.now c.row_line.result _ _ c.in-Task.is c.if-i-tasks.false c.row_line.ensures

@@ -1,0 +1,2 @@
+-- the files worked by hand, all of them
+pub mod FileCase
