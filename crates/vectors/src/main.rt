@@ -178,7 +178,13 @@ fn show_weight(rt: &impl Print, pick: u8, weight: u32, share: u64) -> io::Result
     text(rt, b"\n")
 }
 
-fn show_weights(rt: &impl Print, list: [u8; 17], found: [u32; 17], shares: [u64; 6], listed: usize) -> io::Result<()>
+fn show_weights(
+    rt: &impl Print,
+    list: [u8; 17],
+    found: [u32; 17],
+    shares: [u64; 6],
+    listed: usize,
+) -> io::Result<()>
     requires { listed ≤ 6 }
 {
     for i in 0..listed {
@@ -236,18 +242,31 @@ fn show_late(rt: &impl Print) -> io::Result<()> {
 fn main(rt: HostRuntime) -> io::Result<()> {
     let five = five_partitions();
     let tasks = five_tasks_each();
-    text(&rt, b"000, table II: responses of tasks in ms, here and there\n")?;
+    text(
+        &rt,
+        b"000, table II: responses of tasks in ms, here and there\n",
+    )?;
     show_table_two(&rt, five, tasks)?;
     text(&rt, b"000, figure 5: R in ms, here and in 01\n")?;
     show_rs(&rt, car())?;
-    text(&rt, b"000, figure 5: fresh weights, here and 65536 times 000's share\n")?;
+    text(
+        &rt,
+        b"000, figure 5: fresh weights, here and 65536 times 000's share\n",
+    )?;
     show_fresh_weights(&rt, car(), [655360, 3276800, 655360, 655360, 1310720, 0], 5)?;
-    text(&rt, b"000, table I: fresh weights, here and 65536 times 000's share\n")?;
-    show_fresh_weights(&rt, 
+    text(
+        &rt,
+        b"000, table I: fresh weights, here and 65536 times 000's share\n",
+    )?;
+    show_fresh_weights(
+        &rt,
         five,
         [1048576, 1048576, 1048576, 1048576, 1048576, 1310720],
         6,
     )?;
-    text(&rt, b"a task whose r is 2^32: its response, here and in 01 (0 for late)\n")?;
+    text(
+        &rt,
+        b"a task whose r is 2^32: its response, here and in 01 (0 for late)\n",
+    )?;
     show_late(&rt)
 }
