@@ -1,7 +1,8 @@
 /* The first case of the sums by hand, tick by tick through the kernel's hook: two programs, six words.
  *
- *   rt staticlib nandoquip
- *   gcc -Wall -Wextra -Werror -Iinclude examples/first_case.c target/staticlib/libnandoquip.a -o first_case
+ *   (cd crates/nandoquip_c && rt lib)
+ *   cp crates/nandoquip_c/out/libnandoquip_c.a libnandoquip.a
+ *   gcc -Wall -Wextra -Werror -Iinclude examples/first_case.c libnandoquip.a -o first_case
  *   ./first_case
  *
  * It prints what `./nandoquip schedule examples/first-case.meter` prints. */

@@ -1,6 +1,6 @@
 /* Nandoquip for C: which program runs next on a processor that several programs share.
  *
- * Link target/staticlib/libnandoquip.a, which `rt staticlib nandoquip` proves and builds.
+ * Link libnandoquip.a: `rt lib` in crates/nandoquip_c proves and builds it, as out/libnandoquip_c.a.
  *
  * Every function takes every value and comes to an end. What it can't use it refuses by a number:
  *

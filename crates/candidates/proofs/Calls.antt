@@ -5,7 +5,7 @@ use mathlib.Core.Bool.{Bool, cond}
 use mathlib.Core.List.{List, []}
 use mathlib.Core.Option.{Option, none}
 use borrow.Author.Tests.{le-leb}
-use lib.ListN.{length, replicate, take}
+use lib.ListN.{replicate, take}
 use Rattle.basis.specs.Words.{has, padded}
 use Rattle.rules.specs.Candidates.{candidates, inversion}
 use Rattle.rules.specs.Refusals.{Refused, Ground, refusal}

@@ -11,7 +11,7 @@ use lib.ListN.{length, replicate, set, take}
 use lib.Seq.{take-suc, length-take-le}
 use Rattle.basis.specs.Words.{◌!◌, total, padded}
 use Rattle.rules.specs.Candidates.{idle}
-use Rattle.rules.specs.Weights.{weight, idle_weight, weights}
+use Rattle.rules.specs.Weights.{weight, idle_weight}
 use Rattle.laws.proofs.Totals.{total-append}
 use Rattle.laws.proofs.Padded.{padded-next}
 use Rattle.draw.specs.Inner.{weight_of, weighed, Usable, ScalesAre}

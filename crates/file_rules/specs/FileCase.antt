@@ -2,7 +2,6 @@
 use Rattle.std.specs.Prelude.{ℕ, ◌≡◌, refl, List, [], ◌∷◌, ◌++◌, length}
 use Rattle.basis.specs.Words.{has}
 use Rattle.basis.specs.Rows.{Row, ◌is◌, Hold, answer}
-use Rattle.rules.specs.Release.{release}
 use Rattle.rules.specs.Refusals.{refusal}
 use Rattle.file_rules.specs.Worked.{file_worked}
 use Rattle.file_rules.specs.MeterFile.{meter_kinds, form, is_record, malformed_at, payload, read_from, reading, refusal_of}

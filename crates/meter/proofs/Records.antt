@@ -31,19 +31,19 @@ module _ (kinds : List ℕ) (before : ℕ) (file : List ℕ) (at : ℕ) where
     pub late_head : length file - 4 < at → false ≡ is_record kinds before file at
     late_head l = cut_head kinds before file at (omega arith)
 
-    module _ (inside : at ≤ length file - 4) (kind : ℕ) (kind_is : kind ≡ kind_at file at) (holds : Bool) (held-is : holds ≡ has kinds kind) where
+    module _ (inside : at ≤ length file - 4) (kind : ℕ) (kind_is : kind ≡ kind_at file at) (holds : Bool) (held_is : holds ≡ has kinds kind) where
       there : at + 4 ≤ length file
       there = omega arith
 
       pub kind_not_held : holds ≡ false → false ≡ is_record kinds before file at
-      kind_not_held e = not_held kinds before file at there (ap (has kinds) (sym kind_is) ∙ sym held-is ∙ e)
+      kind_not_held e = not_held kinds before file at there (ap (has kinds) (sym kind_is) ∙ sym held_is ∙ e)
 
-      module _ (held : holds ≡ true) (asked : Shape) (Asked-is : shape_as asked ≡ form kind) where
+      module _ (held : holds ≡ true) (asked : Shape) (asked_is : shape_as asked ≡ form kind) where
         is_held : has kinds (kind_at file at) ≡ true
-        is_held = ap (has kinds) (sym kind_is) ∙ sym held-is ∙ held
+        is_held = ap (has kinds) (sym kind_is) ∙ sym held_is ∙ held
 
         same_form : shape_as asked ≡ form (kind_at file at)
-        same_form = Asked-is ∙ ap form kind_is
+        same_form = asked_is ∙ ap form kind_is
 
         same_place : asked.place ≡ (form (kind_at file at)).place
         same_place = ap (λ (f : Form). f.place) same_form
@@ -78,14 +78,14 @@ module _ (kinds : List ℕ) (before : ℕ) (file : List ℕ) (at : ℕ) where
   unfolding says unless_refused
   limit_passed l = sym (ap says (over_limit_lem kinds before file at l) ∙ rw (file_alone (some most_bytes)))
 
-  module _ (small : length file ≤ most_bytes) (is : Bool) (is-is : is ≡ is_record kinds before file at) where
+  module _ (small : length file ≤ most_bytes) (is : Bool) (is_so : is ≡ is_record kinds before file at) where
     pub refused_here : is ≡ false → ReadRecordIs kinds before file at (read.Refused (BadRecord at))
     unfolding says unless_refused
-    refused_here e = sym (ap says (no_record kinds before file at small (sym is-is ∙ e)) ∙ rw (file_alone (some at)))
+    refused_here e = sym (ap says (no_record kinds before file at small (sym is_so ∙ e)) ∙ rw (file_alone (some at)))
 
     module _ (good : is ≡ true) where
       whole : Whole kinds before file at
-      whole = record_whole kinds before file at (sym is-is ∙ good)
+      whole = record_whole kinds before file at (sym is_so ∙ good)
 
       pub kind_there : at + 4 ≤ length file
       kind_there = whole.head
@@ -97,7 +97,7 @@ module _ (kinds : List ℕ) (before : ℕ) (file : List ℕ) (at : ℕ) where
       unfolding says unless_refused
       read_here len kind e d =
           (λ i. gives (record { kind = d i; next = at + 2 + e i }))
-          ∙ sym (ap says (a_record kinds before file at small (sym is-is ∙ good)) ∙ rw (file_alone none))
+          ∙ sym (ap says (a_record kinds before file at small (sym is_so ∙ good)) ∙ rw (file_alone none))
 
   -- ---- back from what it says
   pub record Told (kind next : ℕ) : Type 0 where

@@ -43,7 +43,7 @@ table-next t ps i is l h =
       period = column-next (λ (p : Part). p.period) ps i l h k;
       budget = column-next (λ (p : Part). p.budget) ps i l h k;
       phase = column-next (λ (p : Part). p.phase) ps i l h k;
-      count = length ps;
+      count = (table_to i ps).count;
     })
   where
     one_more : Table → Table

@@ -36,6 +36,7 @@ fn pair_is_zero(b: u16, o: u16) -> bool
 }
 
 // How many of `n` partitions have a pair among `o`. A slice's length is known in the proof, an array's behind a reference is not.
+#[tactic(auto, unfolding(crate::specs::Parts::paired))]
 pub fn paired(n: usize, o: &[u16]) -> usize
     ensures { PairedIs n o.now result }
 {

@@ -1,4 +1,3 @@
-use Prim.Native.Nat.{◌-◌}
 use borrow.Author.Rules.{rules}
 use Rattle.rules.specs.BusyLength.{refill}
 use Rattle.laws.proofs.Reckoning.{sum_begins, sum_goes_on, sum_ends}

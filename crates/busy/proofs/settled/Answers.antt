@@ -1,4 +1,3 @@
-use Prim.Native.Nat.{◌-◌}
 use borrow.Author.Rules.{rules}
 use Rattle.busy.proofs.Repetition.{going_still, going_nearer, going_on, going_over}
 use Rattle.busy.proofs.settled.Goals as goal

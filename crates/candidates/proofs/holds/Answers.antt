@@ -1,4 +1,3 @@
-use Prim.Native.Nat.{◌-◌}
 use borrow.Author.Rules.{rules}
 use Rattle.basis.specs.Words.{has}
 use Rattle.laws.proofs.Places.{has-take_here, has-take-next, has-take-none}

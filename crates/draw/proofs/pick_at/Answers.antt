@@ -1,4 +1,3 @@
-use Prim.Native.Nat.{◌-◌}
 use borrow.Author.Rules.{rules}
 use Rattle.draw.proofs.Running.{run_begins, run-exceeds, run_on, run_ends}
 use Rattle.draw.proofs.pick_at.Goals as goal

@@ -1,5 +1,4 @@
 use borrow.Author.Rules.{rules}
-use Prim.Native.Nat.{◌-◌}
 use Rattle.draw.proofs.Weighing.{weighing_begins, weighing_on, weighing_ends}
 use Rattle.draw.proofs.weigh.Goals as goal
 

@@ -1,4 +1,3 @@
-use Prim.Native.Nat.{◌-◌}
 use native.Mathlib.Nat.{le_refl}
 use native.Mathlib.Omega.{arith}
 use Rattle.laws.proofs.Places.{pass_next, fails_here, none_fails}

@@ -1,4 +1,4 @@
-use Prim.Native.Nat.{◌-◌, zero-le}
+use Prim.Native.Nat.{zero-le}
 use native.Mathlib.Omega.{arith}
 use Rattle.laws.proofs.Places.{pass_begins, pass_next, fails_here, none_fails}
 use Rattle.pairs.proofs.Parts.{bad_inside, good_inside}

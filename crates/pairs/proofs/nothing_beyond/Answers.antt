@@ -1,4 +1,3 @@
-use Prim.Native.Nat.{◌-◌}
 use native.Mathlib.Nat.{le_refl}
 use native.Mathlib.Omega.{arith}
 use Rattle.pairs.proofs.Parts.{beyond_begins, nothing_on, nothing_there}

@@ -1,6 +1,5 @@
-use Prim.Native.Nat.{◌-◌, zero-le}
+use Prim.Native.Nat.{zero-le}
 use native.Mathlib.Omega.{arith}
-use Rattle.rules.specs.BusyLength.{passes}
 use Rattle.laws.proofs.Places.{pass_begins, pass_next, fails_here, none_fails}
 use Rattle.standing.proofs.Tests.{tested, said}
 use Rattle.standing.proofs.first_failing.Goals as goal

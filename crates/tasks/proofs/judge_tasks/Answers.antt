@@ -1,4 +1,4 @@
-use Prim.Native.Nat.{◌-◌, zero-le}
+use Prim.Native.Nat.{zero-le}
 use native.Mathlib.Omega.{arith}
 use Rattle.laws.proofs.Places.{pass_begins, pass_next, fails_here, none_fails}
 use Rattle.tasks.proofs.Judged.{too_many_tasks, bad_tasks_lem, good_tasks}

@@ -1,5 +1,4 @@
 use borrow.Author.Rules.{rules}
-use Prim.Native.Nat.{◌-◌}
 use Rattle.laws.proofs.Reckoning.{sum_begins, sum_goes_on, sum_ends}
 use Rattle.busy.specs.Inner.{once}
 use Rattle.busy.proofs.search.refills_once.Goals as goal

@@ -1,4 +1,3 @@
-use Prim.Native.Nat.{◌-◌}
 use native.Mathlib.Nat.{le_refl}
 use native.Mathlib.Omega.{arith}
 use Rattle.busy.proofs.Near.{climb_begins, climbed_all, climb_small, climb_fits, climb_start, climb_reaches, climb_on}

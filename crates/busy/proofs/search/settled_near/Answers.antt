@@ -1,6 +1,5 @@
 use native.Mathlib.Omega.{arith}
 use borrow.Author.Rules.{rules}
-use Prim.Native.Nat.{◌-◌}
 use Rattle.busy.proofs.Repetition.{going_begins}
 use Rattle.busy.proofs.Near.{near_still, near_on, near_nearer}
 use Rattle.busy.proofs.search.settled_near.Goals as goal

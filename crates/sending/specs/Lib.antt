@@ -1,0 +1,2 @@
+-- what an error leaves
+pub mod Writing
