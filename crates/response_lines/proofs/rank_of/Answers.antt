@@ -1,4 +1,3 @@
-use Prim.Native.Nat.{◌-◌}
 use native.Mathlib.Omega.{arith}
 use Rattle.response_lines.proofs.Rows.{rank_begins, rank_counts, rank_skips, rank_ends}
 use Rattle.response_lines.proofs.rank_of.Goals as goal
@@ -24,9 +23,9 @@ loop-j-smaller c = omega arith
 
 pub loop-j-preserved : goal.loop-j-preserved
 loop-j-preserved c = elim c.if-partition-j.branch [
-    then-partition-j w ↦ rank_counts _ _ _ _ c.loop-j.invariant c.loop-j-test.true w.if-partition-j.true _ w.rank-is
-    | else-partition-j w ↦ rank_skips _ _ _ _ c.loop-j.invariant c.loop-j-test.true w.if-partition-j.false _ w.rank-is
-    ]
+  | then-partition-j w ↦ rank_counts _ _ _ _ c.loop-j.invariant c.loop-j-test.true w.if-partition-j.true _ w.rank-is
+  | else-partition-j w ↦ rank_skips _ _ _ _ c.loop-j.invariant c.loop-j-test.true w.if-partition-j.false _ w.rank-is
+]
 
 pub returns : goal.returns
 returns c = rank_ends _ _ _ _ c.loop-j.invariant c.loop-j-test.false
