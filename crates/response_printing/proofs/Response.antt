@@ -168,3 +168,12 @@ module _ (file : List ℕ) (m : MeterFile) (judged : JudgeFileIs file m) (n : �
   pub response_held : m.verdict ≡ verdict.Good → (last : List ℕ) → RowsAre m.table m.tasks last n → PrintResponseIs file n
   unfolding response_output
   response_held e last are = sym (length-take-le n last are.0) ∙ ap length (are.1 ∙ all_rows file m judged e ∙ sym (output_good file m judged e _))
+
+  pub held_bytes : m.verdict ≡ verdict.Good → (last : List ℕ) → RowsAre m.table m.tasks last n → take n last ≡ response_output file
+  unfolding response_output
+  held_bytes e last are = are.1 ∙ all_rows file m judged e ∙ sym (output_good file m judged e _)
+
+module _ (file : List ℕ) (m : MeterFile) (judged : JudgeFileIs file m) where
+  pub refused_bytes : (q : Refusal) → m.verdict ≡ verdict.Refused q → refused_line (refused_as q) ≡ response_output file
+  unfolding response_output
+  refused_bytes q e = sym (output_refused file m judged q e _)

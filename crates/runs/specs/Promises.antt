@@ -5,7 +5,6 @@ use Rattle.rules.specs.Records.{table_bad}
 use Rattle.scheduler.specs.States.{state_bad, pairs, decision_of, tick_of}
 use Rattle.basis.specs.Words.{onto}
 use Rattle.rules.specs.Numbers.{Pairs}
-use Rattle.rules.specs.Pick.{decision}
 use Rattle.rules.specs.Run.{Ran, run}
 use Rattle.rules.specs.Refusals.{Refused, short_buffer, refusal}
 use Rattle.rules.specs.declared.Table.{Table}

@@ -6,8 +6,11 @@ use native.Mathlib.Nat.{le_refl, zero-add}
 use native.Mathlib.Omega.{arith}
 use lib.ListN.{length, take, drop, length-drop}
 use lib.Seq.{length-take-le}
+use Rattle.std.specs.declared.option.Option.{Option}
+use Rattle.std.specs.Io.KnownBytes.{Appends}
+use Rattle.std.proofs.KnownBytes.{Appends-nil, Appends-trans}
 use borrow.Rule.Slice.PartMut.{same_len_mid, take_put}
-use Rattle.rules.specs.Refusals.{Refused, refused_as}
+use Rattle.rules.specs.Refusals.{refused_as}
 use Rattle.file_rules.specs.Printers.{refused_line, schedule_output}
 use Rattle.rules.specs.declared.Refusal.{Refusal}
 use Rattle.rules.specs.declared.Table.{Table}
@@ -225,3 +228,47 @@ module _ (file : List ℕ) (m : MeterFile) (judged : JudgeFileIs file m) (n : �
       → n ≡ length (to_write file m.table (pairs start.state) (cursor.Header m.events)) → PrintScheduleIs file n
   unfolding schedule_output
   schedule_counted e old start fresh d = d ∙ ap length (all-to_write file m judged e old start fresh ∙ sym (output_good file m judged e _))
+
+module _ (file : List ℕ) (m : MeterFile) (judged : JudgeFileIs file m) where
+  pub refused_bytes : (q : Refusal) → m.verdict ≡ verdict.Refused q → refused_line (refused_as q) ≡ schedule_output file
+  unfolding schedule_output
+  refused_bytes q e = sym (output_refused file m judged q e _)
+
+  pub schedule_bytes : m.verdict ≡ verdict.Good → (old : State) (start : Changed) → FreshIs m.table old start
+      → to_write file m.table (pairs start.state) (cursor.Header m.events) ≡ schedule_output file
+  unfolding schedule_output
+  schedule_bytes e old start fresh = all-to_write file m judged e old start fresh ∙ sym (output_good file m judged e _)
+
+-- ---- what a writer holds of it
+-- a writer that held the one now holds the other, grown by bytes that the rest makes whole
+abbrev pub Grown : Option (List ℕ) → Option (List ℕ) → List ℕ → List ℕ → Type 0
+Grown old new rest whole = (sent : List ℕ) × Appends old new sent × (sent ++ rest ≡ whole)
+
+pub grown_begins : (held : Option (List ℕ)) (whole : List ℕ) → Grown held held whole whole
+grown_begins held whole = ([], Appends-nil held, refl)
+
+-- one more part of what is still to be written
+pub grown_on : (old new after : Option (List ℕ)) (part rest more whole : List ℕ) → Grown old new more whole → Appends new after part → part ++ rest ≡ more → Grown old after rest whole
+grown_on old new after part rest more whole g a e =
+    (g.0 ++ part, Appends-trans old new after g.0 part g.1 a, append_assoc g.0 part rest ∙ ap (λ (xs : List ℕ). g.0 ++ xs) e ∙ g.2)
+
+-- nothing is still to be written
+pub grown_ends : (old new : Option (List ℕ)) (whole : List ℕ) → Grown old new [] whole → Appends old new whole
+grown_ends old new whole g = subst (Appends old new) (sym (append-nil g.0) ∙ g.2) g.1
+
+module _ (file : List ℕ) (t : Table) (start : State) (from : Cursor) (r : Page) (out : List ℕ) (is : PageIs file t start from r out)
+    (old new after : Option (List ℕ)) (whole : List ℕ) (g : Grown old new (to_write file t (pairs start) from) whole) (sent : Appends new after (take r.used out)) where
+  page_sent : (x : Rest) → r.rest ≡ x → Grown old after (to_come file t r.state x) whole
+  page_sent x e = subst (λ (y : Rest). Grown old after (to_come file t r.state y) whole) e (grown_on old new after (take r.used out) _ _ whole g sent is.bytes)
+
+  pub lines_left : (c : Cursor) → r.rest ≡ rest.Lines c → Grown old after (to_write file t (pairs r.state) c) whole
+  unfolding to_come
+  lines_left c e = page_sent (rest.Lines c) e
+
+  pub nothing_left : r.rest ≡ rest.Nothing → Appends old after whole
+  unfolding to_come
+  nothing_left e = grown_ends old after whole (page_sent rest.Nothing e)
+
+  pub refusal_sent : (q : Refusal) (last : Option (List ℕ)) → r.rest ≡ rest.Refused q → Appends after last (refused_line (refused_as q)) → Appends old last whole
+  unfolding to_come
+  refusal_sent q last e a = grown_ends old last whole (grown_on old after last (refused_line (refused_as q)) [] _ whole (page_sent (rest.Refused q) e) a (append-nil _))

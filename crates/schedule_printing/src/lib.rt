@@ -1,7 +1,9 @@
 // The whole schedule of a file, page by page through a buffer, to a writer. The answer is how many bytes it has.
 #![tactic(auto)]
 
-ghost use Rattle.std.specs.Prelude.{◌≡◌, length, IfOk};
+ghost use Rattle.std.specs.Prelude.{◌≡◌, length, IfOk, OnOk};
+ghost use Rattle.std.specs.Io.KnownBytes.{Appends};
+ghost use Rattle.file_rules.specs.Printers.{schedule_output};
 ghost use Rattle.scheduler.specs.States.{pairs};
 ghost use Rattle.schedule_lines.specs.declared.Cursor.TheVariants.{Header};
 ghost use Rattle.outputs.specs.ScheduleMoments.{At, Moment, to_write};
@@ -76,6 +78,7 @@ fn fill_page(file: &[u8], t: Table, start: State, from: Cursor, out: &mut [u8]) 
 // Writes the bytes out, and says how many they are.
 fn send<W: Write>(to: &mut W, bytes: &[u8]) -> io::Result<usize>
     ensures count { IfOk result (λ n. n ≡ length bytes.now) }
+    ensures bytes { OnOk result (Appends (W.contents to.old) (W.contents to.new) bytes.now) }
 {
     to.write_all(bytes)?;
     Ok(bytes.len())
@@ -92,6 +95,8 @@ fn print_pages<W: Write>(
 ) -> io::Result<usize>
     requires { (length out.old ≡ 4096) × (Moment file.now t (pairs start) events 0) }
     ensures count { IfOk result (λ n. n ≡ length (to_write file.now t (pairs start) (Header events))) }
+    ensures bytes { OnOk result (Appends (W.contents to.old) (W.contents to.new)
+        (to_write file.now t (pairs start) (Header events))) }
 {
     let mut state = start;
     let mut cursor = Cursor::Header(events);
@@ -119,6 +124,7 @@ fn print_pages<W: Write>(
 // The whole schedule of a file, refused or not. An error is the writer's own, and then the writer may hold a part of the output.
 pub fn print_schedule<W: Write>(to: &mut W, file: &[u8]) -> io::Result<usize>
     ensures count { IfOk result (λ n. PrintScheduleIs file.now n) }
+    ensures bytes { OnOk result (Appends (W.contents to.old) (W.contents to.new) (schedule_output file.now)) }
 {
     let held = judge_file(file);
     let verdict = held.verdict;

@@ -1,4 +1,4 @@
-use Prim.Native.Nat.{◌-◌, zero-le}
+use Prim.Native.Nat.{zero-le}
 use native.Mathlib.Omega.{arith}
 use Rattle.laws.proofs.Reckoning.{sum_begins, sum_goes_on, sum_ends}
 use Rattle.responses.proofs.asked_above.Goals as goal

@@ -1,4 +1,3 @@
-use Prim.Native.Nat.{◌-◌}
 use Rattle.responses.proofs.Repetition.{going_begins, going_still, going_nearer, going_on, going_late}
 use Rattle.responses.proofs.settled.Goals as goal
 

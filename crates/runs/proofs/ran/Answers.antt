@@ -1,5 +1,4 @@
 use borrow.Author.Rules.{rules}
-use Prim.Native.Nat.{◌-◌}
 use native.Mathlib.Omega.{arith}
 use Rattle.runs.proofs.Looped.{run_begins, run_goes_on, run_ends}
 use Rattle.runs.proofs.ran.Goals as goal

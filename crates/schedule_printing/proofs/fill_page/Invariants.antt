@@ -1,0 +1,9 @@
+use Rattle.outputs.specs.ScheduleMoments.{left}
+use Rattle.schedule_printing.proofs.Schedule.{Filling}
+use Rattle.schedule_printing.proofs.fill_page.Given as goal
+
+abbrev pub invariant-loop-used : goal.invariant-loop-used
+invariant-loop-used l = Filling l.file l.t l.initial.state l.initial.cursor l.state l.cursor l.used l.out
+
+abbrev pub decreases-loop-used : goal.decreases-loop-used
+decreases-loop-used l = left l.file l.t l.cursor
