@@ -1,16 +1,18 @@
 // The response times of a file's tasks, row by row into a buffer, to a writer. The answer is how many bytes they have.
 #![tactic(auto)]
 
-ghost use Rattle.std.specs.Prelude.{◌≡◌, length, IfOk, OnOk};
+ghost use Rattle.std.specs.Prelude.{◌≡◌, length, IfOk, OnErr, OnOk};
 ghost use Rattle.std.specs.Io.KnownBytes.{Appends};
 ghost use Rattle.file_rules.specs.Printers.{response_output};
 ghost use Rattle.response_lines.specs.declared.Cursor.TheVariants.{Header};
 ghost use Rattle.outputs.specs.ResponseMoments.{RowAt};
+ghost use Rattle.sending.specs.Writing.{AppendsPart};
 ghost use Rattle.response_printing.specs.Promises.{RowsAre, PrintResponseIs};
 
 use refusal_printing::print_refusal;
 use response_lines::{Cursor, Made, Next, response_line};
 use rules::{Table, Tasks};
+use sending::write_whole;
 use std::io;
 use std::io::Write;
 use verdicts::Verdict;
@@ -36,10 +38,11 @@ fn rows_into(t: Table, tasks: Tasks, out: &mut [u8]) -> usize
     }
 }
 
-// The response times of a file's tasks, refused or not. An error is the writer's own, and then the writer may hold a part of the output.
+// The response times of a file's tasks, refused or not. An error is the writer's own, and then the writer holds a first part of the output.
 pub fn print_response<W: Write>(to: &mut W, file: &[u8]) -> io::Result<usize>
     ensures count { IfOk result (λ n. PrintResponseIs file.now n) }
     ensures bytes { OnOk result (Appends (W.contents to.old) (W.contents to.new) (response_output file.now)) }
+    ensures err { OnErr result (AppendsPart (W.contents to.old) (W.contents to.new) (response_output file.now)) }
 {
     let held = judge_file(file);
     let verdict = held.verdict;
@@ -50,6 +53,6 @@ pub fn print_response<W: Write>(to: &mut W, file: &[u8]) -> io::Result<usize>
     let tasks = held.tasks;
     let mut out = [0u8; 8192];
     let used = rows_into(table, tasks, &mut out);
-    to.write_all(&out[..used])?;
+    write_whole(to, &out[..used])?;
     Ok(used)
 }

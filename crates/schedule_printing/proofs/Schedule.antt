@@ -9,6 +9,8 @@ use lib.Seq.{length-take-le}
 use Rattle.std.specs.declared.option.Option.{Option}
 use Rattle.std.specs.Io.KnownBytes.{Appends}
 use Rattle.std.proofs.KnownBytes.{Appends-nil, Appends-trans}
+use Rattle.sending.specs.Writing.{AppendsPart}
+use Rattle.sending.proofs.Parts.{part_behind}
 use borrow.Rule.Slice.PartMut.{same_len_mid, take_put}
 use Rattle.rules.specs.Refusals.{refused_as}
 use Rattle.file_rules.specs.Printers.{refused_line, schedule_output}
@@ -256,6 +258,16 @@ grown_on old new after part rest more whole g a e =
 pub grown_ends : (old new : Option (List ℕ)) (whole : List ℕ) → Grown old new [] whole → Appends old new whole
 grown_ends old new whole g = subst (Appends old new) (sym (append-nil g.0) ∙ g.2) g.1
 
+-- a first part of the next part, where a write failed
+pub grown_part : (old new after : Option (List ℕ)) (part rest more whole : List ℕ) → Grown old new more whole → AppendsPart new after part → part ++ rest ≡ more → AppendsPart old after whole
+grown_part old new after part rest more whole g a e =
+    part_behind old new after g.0 part rest whole (append_assoc g.0 part rest ∙ ap (λ (xs : List ℕ). g.0 ++ xs) e ∙ g.2) g.1 a
+
+-- a page was cut short
+pub page_cut : (file : List ℕ) (t : Table) (start : State) (from : Cursor) (r : Page) (page : List ℕ) → PageIs file t start from r page
+    → (old new after : Option (List ℕ)) (whole : List ℕ) → Grown old new (to_write file t (pairs start) from) whole → AppendsPart new after (take r.used page) → AppendsPart old after whole
+page_cut file t start from r page is old new after whole g a = grown_part old new after (take r.used page) _ _ whole g a is.bytes
+
 module _ (file : List ℕ) (t : Table) (start : State) (from : Cursor) (r : Page) (out : List ℕ) (is : PageIs file t start from r out)
     (old new after : Option (List ℕ)) (whole : List ℕ) (g : Grown old new (to_write file t (pairs start) from) whole) (sent : Appends new after (take r.used out)) where
   page_sent : (x : Rest) → r.rest ≡ x → Grown old after (to_come file t r.state x) whole
@@ -272,3 +284,8 @@ module _ (file : List ℕ) (t : Table) (start : State) (from : Cursor) (r : Page
   pub refusal_sent : (q : Refusal) (last : Option (List ℕ)) → r.rest ≡ rest.Refused q → Appends after last (refused_line (refused_as q)) → Appends old last whole
   unfolding to_come
   refusal_sent q last e a = grown_ends old last whole (grown_on old after last (refused_line (refused_as q)) [] _ whole (page_sent (rest.Refused q) e) a (append-nil _))
+
+  -- the line of a refusal was cut short
+  pub refusal_cut : (q : Refusal) (last : Option (List ℕ)) → r.rest ≡ rest.Refused q → AppendsPart after last (refused_line (refused_as q)) → AppendsPart old last whole
+  unfolding to_come
+  refusal_cut q last e a = grown_part old after last (refused_line (refused_as q)) [] _ whole (page_sent (rest.Refused q) e) a (append-nil _)

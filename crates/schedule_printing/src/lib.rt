@@ -1,12 +1,13 @@
 // The whole schedule of a file, page by page through a buffer, to a writer. The answer is how many bytes it has.
 #![tactic(auto)]
 
-ghost use Rattle.std.specs.Prelude.{◌≡◌, length, IfOk, OnOk};
+ghost use Rattle.std.specs.Prelude.{◌≡◌, length, IfOk, OnErr, OnOk};
 ghost use Rattle.std.specs.Io.KnownBytes.{Appends};
 ghost use Rattle.file_rules.specs.Printers.{schedule_output};
 ghost use Rattle.scheduler.specs.States.{pairs};
 ghost use Rattle.schedule_lines.specs.declared.Cursor.TheVariants.{Header};
 ghost use Rattle.outputs.specs.ScheduleMoments.{At, Moment, to_write};
+ghost use Rattle.sending.specs.Writing.{AppendsPart};
 ghost use Rattle.schedule_printing.specs.Pages.{PageIs};
 ghost use Rattle.schedule_printing.specs.Promises.{PrintScheduleIs};
 
@@ -14,6 +15,7 @@ use refusal_printing::print_refusal;
 use rules::{Refusal, Table};
 use schedule_lines::{Cursor, Made, Next, schedule_line};
 use scheduler::State;
+use sending::write_whole;
 use std::io;
 use std::io::Write;
 use verdicts::Verdict;
@@ -79,8 +81,9 @@ fn fill_page(file: &[u8], t: Table, start: State, from: Cursor, out: &mut [u8]) 
 fn send<W: Write>(to: &mut W, bytes: &[u8]) -> io::Result<usize>
     ensures count { IfOk result (λ n. n ≡ length bytes.now) }
     ensures bytes { OnOk result (Appends (W.contents to.old) (W.contents to.new) bytes.now) }
+    ensures err { OnErr result (AppendsPart (W.contents to.old) (W.contents to.new) bytes.now) }
 {
-    to.write_all(bytes)?;
+    write_whole(to, bytes)?;
     Ok(bytes.len())
 }
 
@@ -96,6 +99,8 @@ fn print_pages<W: Write>(
     requires { (length out.old ≡ 4096) × (Moment file.now t (pairs start) events 0) }
     ensures count { IfOk result (λ n. n ≡ length (to_write file.now t (pairs start) (Header events))) }
     ensures bytes { OnOk result (Appends (W.contents to.old) (W.contents to.new)
+        (to_write file.now t (pairs start) (Header events))) }
+    ensures err { OnErr result (AppendsPart (W.contents to.old) (W.contents to.new)
         (to_write file.now t (pairs start) (Header events))) }
 {
     let mut state = start;
@@ -121,10 +126,11 @@ fn print_pages<W: Write>(
     }
 }
 
-// The whole schedule of a file, refused or not. An error is the writer's own, and then the writer may hold a part of the output.
+// The whole schedule of a file, refused or not. An error is the writer's own, and then the writer holds a first part of the output.
 pub fn print_schedule<W: Write>(to: &mut W, file: &[u8]) -> io::Result<usize>
     ensures count { IfOk result (λ n. PrintScheduleIs file.now n) }
     ensures bytes { OnOk result (Appends (W.contents to.old) (W.contents to.new) (schedule_output file.now)) }
+    ensures err { OnErr result (AppendsPart (W.contents to.old) (W.contents to.new) (schedule_output file.now)) }
 {
     let held = judge_file(file);
     let verdict = held.verdict;

@@ -4,7 +4,8 @@ use native.Mathlib.Omega.{arith}
 use borrow.Author.Rules.{rules}
 use lib.ListN.{length}
 use lib.Seq.{length-take-le}
-use Rattle.schedule_printing.proofs.Schedule.{sending_begins, fits, all_sent, refusal-left, sends_on, nearer, grown_begins, lines_left, nothing_left, refusal_sent}
+use Rattle.schedule_printing.proofs.Schedule.{sending_begins, fits, all_sent, refusal-left, sends_on, nearer, grown_begins, lines_left, nothing_left, refusal_sent, page_cut, refusal_cut}
+use Rattle.sending.proofs.Parts.{on_err}
 use Rattle.schedule_printing.proofs.print_pages.Goals as goal
 
 pub loop-sent-init : goal.loop-sent-init
@@ -50,3 +51,10 @@ returns-in-Refused-clause-count g c = ap (λ x. c.loop-sent.sent + c.in_ok-sent.
 
 pub returns-in-Refused-clause-bytes : goal.returns-in-Refused-clause-bytes
 returns-in-Refused-clause-bytes g c = refusal_sent c.args.file.now _ _ _ c.fill_page-page.result _ c.fill_page-page.ensures _ _ _ _ c.loop-sent.invariant.2 c.in_ok-sent.ensures.bytes _ _ c.in-Refused.is c.in_ok-print_refusal-in-Refused.ensures.bytes
+
+pub returns-in_err-sent-clause-err : goal.returns-in_err-sent-clause-err
+returns-in_err-sent-clause-err g c = on_err c.from_residual.result (page_cut c.args.file.now _ _ _ c.fill_page-page.result _ c.fill_page-page.ensures _ _ _ _ c.loop-sent.invariant.2 c.in_err-sent.ensures.err)
+
+pub returns-in_err-print_refusal-in-Refused-clause-err :
+    goal.returns-in_err-print_refusal-in-Refused-clause-err
+returns-in_err-print_refusal-in-Refused-clause-err g c = on_err c.from_residual-in_err-print_refusal-in-Refused.result (refusal_cut c.args.file.now _ _ _ c.fill_page-page.result _ c.fill_page-page.ensures _ _ _ _ c.loop-sent.invariant.2 c.in_ok-sent.ensures.bytes _ _ c.in-Refused.is c.in_err-print_refusal-in-Refused.ensures.err)

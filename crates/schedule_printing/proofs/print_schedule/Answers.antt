@@ -3,8 +3,9 @@ use Rattle.outputs.proofs.Schedule.{start_moment}
 use mathlib.Core.Path.{refl, subst}
 use mathlib.Core.List.{List}
 use Prim.Native.Nat.{ℕ}
-use Rattle.std.specs.Prelude.{OnOk}
+use Rattle.std.specs.Prelude.{OnErr, OnOk}
 use Rattle.std.specs.Io.KnownBytes.{Appends}
+use Rattle.sending.specs.Writing.{AppendsPart}
 use Rattle.std.proofs.lemmas.Result.{IfOk-weaker}
 use Rattle.schedule_printing.proofs.print_schedule.Goals as goal
 
@@ -22,3 +23,9 @@ returns-clause-count g c = IfOk-weaker c.print_pages.result _ _ (λ n d. schedul
 
 pub returns-clause-bytes : goal.returns-clause-bytes
 returns-clause-bytes g c = subst (λ (xs : List ℕ). OnOk c.print_pages.result (Appends (g.W.Write.contents c.args.to.now) (g.W.Write.contents c.print_pages.new.to) xs)) (schedule_bytes _ _ c.judge_file-held.ensures c.in_default.is _ _ c.fresh-begun.ensures) c.print_pages.ensures.bytes
+
+pub returns-in-Refused-clause-err : goal.returns-in-Refused-clause-err
+returns-in-Refused-clause-err g c = subst (λ (xs : List ℕ). OnErr c.print_refusal.result (AppendsPart (g.W.Write.contents c.args.to.now) (g.W.Write.contents c.print_refusal.new.to) xs)) (refused_bytes _ _ c.judge_file-held.ensures _ c.in-Refused.is) c.print_refusal.ensures.err
+
+pub returns-clause-err : goal.returns-clause-err
+returns-clause-err g c = subst (λ (xs : List ℕ). OnErr c.print_pages.result (AppendsPart (g.W.Write.contents c.args.to.now) (g.W.Write.contents c.print_pages.new.to) xs)) (schedule_bytes _ _ c.judge_file-held.ensures c.in_default.is _ _ c.fresh-begun.ensures) c.print_pages.ensures.err

@@ -1,0 +1,2 @@
+-- what an error leaves, over several writes
+pub mod Parts
