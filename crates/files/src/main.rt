@@ -37,7 +37,9 @@ fn print_named(rt: &(impl Files + Print), name: &str) -> io::Result<()> {
 
 fn main(rt: HostRuntime) -> io::Result<()> {
     for name in env::args(&rt)?.skip(1) {
-        print_named(&rt, name.as_str())?;
+        // Of a longer name the first 256 bytes.
+        let name = name.as_str();
+        print_named(&rt, name.get(..256).unwrap_or(name))?;
     }
     Ok(())
 }
