@@ -3,7 +3,6 @@ use Prim.Native.Nat.{ℕ}
 use mathlib.Core.List.{List, [], ◌∷◌}
 use mathlib.Core.Path.{◌≡◌, refl}
 use Rattle.rules.specs.Candidates.{idle}
-use Rattle.rules.specs.Pick.{decision}
 use Rattle.rules.specs.declared.Table.{Table}
 use Rattle.rules.specs.declared.Refusal.TheVariants.{NotListed}
 use Rattle.guarantee.specs.Histories.{tick_to, release_of}

@@ -9,12 +9,11 @@ use Rattle.rules.specs.Records.{table_bad}
 use Rattle.scheduler.specs.States.{state_bad, pairs, decision_of, tick_of, unlisted}
 use Rattle.basis.specs.Words.{has, unless}
 use Rattle.rules.specs.Numbers.{Pairs, TableInRange, StateInRange}
-use Rattle.rules.specs.Pick.{decision}
 use Rattle.rules.specs.Refusals.{Refused, ground, refusal}
 use Rattle.rules.specs.declared.Table.{Table}
 use Rattle.laws.proofs.Refusals.{no_ground, Late, four, late_last, late_alone, refused-first, refused_then}
 use Rattle.laws.proofs.Pick.{decision-allowed}
-use Rattle.verdicts.specs.Outcome.{refused, unless_refused}
+use Rattle.verdicts.specs.Outcome.{unless_refused}
 use Rattle.verdicts.specs.Verdicts.{verdict_as}
 use Rattle.verdicts.specs.declared.Verdict.TheVariants as verdict
 use Rattle.draw.specs.Promises.{DecideIs}
