@@ -67,7 +67,7 @@ use Rattle.schedule_lines.specs.declared.Cursor.{Cursor}
 use Rattle.schedule_lines.specs.declared.Made.{Made}
 use Rattle.schedule_lines.specs.declared.Made.TheVariants as made
 use Rattle.schedule_lines.specs.declared.Printed.{Printed}
-use Rattle.response_lines.specs.Promises.{OneLine as OneRow, Printing as RowPrinting, made_as as rowMadeAs, ResponseLineIs}
+use Rattle.response_lines.specs.Promises.{OneLine as OneRow, Printing as RowPrinting, made_as as row_made_as, ResponseLineIs}
 use Rattle.response_lines.specs.declared.Cursor.{Cursor as RowCursor}
 use Rattle.response_lines.specs.declared.Made.{Made as RowMade}
 use Rattle.response_lines.specs.declared.Made.TheVariants as row
@@ -155,7 +155,7 @@ made_injective (made.Line length next) (made.Refused q) e = never_both e
 made_injective (made.Refused p) (made.Line other further) e = never_both (sym e)
 made_injective (made.Refused p) (made.Refused q) e = ap made.Refused (refused_injective p q (refused_as_lem e))
 
-pub row-made_injective : (r s : RowMade) → rowMadeAs r ≡ rowMadeAs s → r ≡ s
+pub row-made_injective : (r s : RowMade) → row_made_as r ≡ row_made_as s → r ≡ s
 row-made_injective (row.Line n x) (row.Line m y) e = ap (λ (l : OneRow). row.Line l.length l.next) (given_as e)
 row-made_injective (row.Line n x) (row.Refused q) e = never_both e
 row-made_injective (row.Refused p) (row.Line m y) e = never_both (sym e)

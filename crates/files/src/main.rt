@@ -4,9 +4,10 @@
 use input::read_full;
 use response_printing::print_response;
 use schedule_printing::print_schedule;
+use std::env::FillError;
 use std::io::Write;
-use std::rt::Files;
-use std::{env, fs, io};
+use std::rt::{Env, Files};
+use std::{fs, io, str};
 
 fn text(rt: &impl Print, words: &[u8]) -> io::Result<()> {
     io::writer(rt).write_all(words)
@@ -21,11 +22,14 @@ fn print_both(rt: &impl Print, file: &[u8]) -> io::Result<()> {
 }
 
 // The file of one name; one that can't be opened is said so.
-fn print_named(rt: &(impl Files + Print), name: &str) -> io::Result<()> {
+fn print_named(rt: &(impl Files + Print), name: &[u8]) -> io::Result<()> {
     text(rt, b"== ")?;
-    text(rt, name.as_bytes())?;
+    text(rt, name)?;
     text(rt, b"\n")?;
-    match fs::open(rt, name) {
+    let Ok(path) = str::from_utf8(name) else {
+        return text(rt, b"can't be opened\n");
+    };
+    match fs::open(rt, path) {
         Err(_) => text(rt, b"can't be opened\n"),
         Ok(mut file) => {
             let mut space = [0u8; 65537];
@@ -36,10 +40,15 @@ fn print_named(rt: &(impl Files + Print), name: &str) -> io::Result<()> {
 }
 
 fn main(rt: HostRuntime) -> io::Result<()> {
-    for name in env::args(&rt)?.skip(1) {
-        // Of a longer name the first 256 bytes.
-        let name = name.as_str();
-        print_named(&rt, name.get(..256).unwrap_or(name))?;
+    for i in 1..usize::MAX {
+        let mut space = [0u8; 256];
+        let length = match rt.arg(i, &mut space) {
+            Ok(length) => length,
+            // A name that doesn't fit is taken for none.
+            Err(FillError::TooLong) => 0,
+            Err(FillError::NotPresent) => break,
+        };
+        print_named(&rt, &space[..length])?;
     }
     Ok(())
 }

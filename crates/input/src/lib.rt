@@ -1,16 +1,17 @@
 // A buffer, filled from a reader.
 #![tactic(auto)]
 
-ghost use Rattle.std.specs.Prelude.{◌≤◌, ◌<◌, length, take, IfOk};
+ghost use Rattle.std.specs.Prelude.{ℕ, ◌≤◌, ◌<◌, length, take, IfOk, OnErr};
 ghost use Rattle.std.specs.Io.KnownBytes.{Consumes, IsAtEnd};
 
 use std::io;
 use std::io::Read;
 
-// Reads until the buffer is full or the input ends, and answers how many bytes are at its start. An error is the reader's own, and then a part of the input may be gone.
+// Reads until the buffer is full or the input ends, and answers how many bytes are at its start. An error is the reader's own; then what was read before it is at the buffer's start.
 pub fn read_full<R: Read>(from: &mut R, buffer: &mut [u8]) -> io::Result<usize>
     ensures within { IfOk result (λ n. n ≤ length buffer.new) }
     ensures bytes { IfOk result (λ n. Consumes (R.remaining from.old) (R.remaining from.new) (take n buffer.new)) }
+    ensures err { OnErr result ((n : ℕ) × Consumes (R.remaining from.old) (R.remaining from.new) (take n buffer.new)) }
     ensures end { IfOk result (λ n. n < length buffer.new → IsAtEnd (R.remaining from.new)) }
 {
     let mut filled = 0;

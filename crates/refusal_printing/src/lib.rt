@@ -14,7 +14,7 @@ use sending::write_whole;
 use std::io;
 use std::io::Write;
 
-// Writes the line, and answers how many bytes it has. An error is the writer's own, and then the writer holds a first part of the line.
+// Writes the line, and answers how many bytes it has. An error is the writer's own, or WriteZero where it takes no more; then it holds a first part of the line.
 pub fn print_refusal<W: Write>(to: &mut W, why: Refusal) -> io::Result<usize>
     ensures count { IfOk result (λ n. PrintRefusalIs why n) }
     ensures bytes { OnOk result (Appends (W.contents to.old) (W.contents to.new) (refused_line (refused_as why))) }

@@ -38,7 +38,7 @@ fn rows_into(t: Table, tasks: Tasks, out: &mut [u8]) -> usize
     }
 }
 
-// The response times of a file's tasks, refused or not. An error is the writer's own, and then the writer holds a first part of the output.
+// The response times of a file's tasks, refused or not. An error is the writer's own, or WriteZero where it takes no more; then it holds a first part of the output.
 pub fn print_response<W: Write>(to: &mut W, file: &[u8]) -> io::Result<usize>
     ensures count { IfOk result (λ n. PrintResponseIs file.now n) }
     ensures bytes { OnOk result (Appends (W.contents to.old) (W.contents to.new) (response_output file.now)) }

@@ -126,7 +126,7 @@ fn print_pages<W: Write>(
     }
 }
 
-// The whole schedule of a file, refused or not. An error is the writer's own, and then the writer holds a first part of the output.
+// The whole schedule of a file, refused or not. An error is the writer's own, or WriteZero where it takes no more; then it holds a first part of the output.
 pub fn print_schedule<W: Write>(to: &mut W, file: &[u8]) -> io::Result<usize>
     ensures count { IfOk result (λ n. PrintScheduleIs file.now n) }
     ensures bytes { OnOk result (Appends (W.contents to.old) (W.contents to.new) (schedule_output file.now)) }
