@@ -280,14 +280,14 @@ module _ (t : Table) (now : State) where
   pub run-one : (words buffer : List ℕ) (r s : Changed) (x y : List ℕ) → RunIs t now words buffer r x → RunIs t now words buffer s y → (r ≡ s) × (x ≡ y)
   run-one words buffer r s x y p q = (ran_injective r s x y (p ∙ sym q), ap (λ (z : Runs). z.buffer) (p ∙ sym q))
 
-pub task_response-one : (t : Table) (k : Tasks) (i : ℕ) (r s : Response) → TaskResponseIs t k i r → TaskResponseIs t k i s → r ≡ s
-task_response-one t k i r s p q = response_injective r s (p ∙ sym q)
+pub task_response_one : (t : Table) (k : Tasks) (i : ℕ) (r s : Response) → TaskResponseIs t k i r → TaskResponseIs t k i s → r ≡ s
+task_response_one t k i r s p q = response_injective r s (p ∙ sym q)
 
-pub two-one : (part : List ℕ) (at r s : ℕ) → TwoIs part at r → TwoIs part at s → r ≡ s
-two-one part at r s p q = p ∙ sym q
+pub two_one : (part : List ℕ) (at r s : ℕ) → TwoIs part at r → TwoIs part at s → r ≡ s
+two_one part at r s p q = p ∙ sym q
 
-pub four-one : (part : List ℕ) (at r s : ℕ) → FourIs part at r → FourIs part at s → r ≡ s
-four-one part at r s p q = p ∙ sym q
+pub four_one : (part : List ℕ) (at r s : ℕ) → FourIs part at r → FourIs part at s → r ≡ s
+four_one part at r s p q = p ∙ sym q
 
 module _ (kinds : List ℕ) (before : ℕ) (file : List ℕ) (at : ℕ) where
   pub read_record_one : (r s : Read) → ReadRecordIs kinds before file at r → ReadRecordIs kinds before file at s → r ≡ s
@@ -297,8 +297,8 @@ module _ (kinds : List ℕ) (before : ℕ) (file : List ℕ) (at : ℕ) where
   pub payload-one : (r s : List ℕ) → PayloadIs kinds before file at r → PayloadIs kinds before file at s → r ≡ s
   payload-one r s p q = p ∙ sym q
 
-pub why_refused-one : (answer : Read) (r s : Refusal) → WhyRefusedIs answer r → WhyRefusedIs answer s → r ≡ s
-why_refused-one answer r s p q = refused_injective r s (p ∙ sym q)
+pub why_refused_one : (answer : Read) (r s : Refusal) → WhyRefusedIs answer r → WhyRefusedIs answer s → r ≡ s
+why_refused_one answer r s p q = refused_injective r s (p ∙ sym q)
 
 pub judge_file_one : (file : List ℕ) (r s : MeterFile) → JudgeFileIs file r → JudgeFileIs file s → r ≡ s
 judge_file_one file r s p q = judged_injective r s (p ∙ sym q)
@@ -307,8 +307,8 @@ pub line-length-one : (l : Line) (r s : ℕ) → LineLengthIs l r → LineLength
 line-length-one l r s p q = p ∙ sym q
 
 -- the answer, and the buffer
-pub write_line-one : (l : Line) (buffer : List ℕ) (r s : Written) (x y : List ℕ) → WriteLineIs l buffer r x → WriteLineIs l buffer s y → (r ≡ s) × (x ≡ y)
-write_line-one l buffer r s x y p q = (written_injective r s (ap (λ (z : Writing). z.says) (p ∙ sym q)), ap (λ (z : Writing). z.buffer) (p ∙ sym q))
+pub write_line_one : (l : Line) (buffer : List ℕ) (r s : Written) (x y : List ℕ) → WriteLineIs l buffer r x → WriteLineIs l buffer s y → (r ≡ s) × (x ≡ y)
+write_line_one l buffer r s x y p q = (written_injective r s (ap (λ (z : Writing). z.says) (p ∙ sym q)), ap (λ (z : Writing). z.buffer) (p ∙ sym q))
 
 module _ (t : Table) (now : State) (file : List ℕ) where
   -- the state, what happened, and the next offset
@@ -320,13 +320,13 @@ module _ (t : Table) (now : State) (file : List ℕ) where
   schedule_line-one c buffer r s x y p q = (printed_injective r s x y (p ∙ sym q), ap (λ (z : Printing). z.buffer) (p ∙ sym q))
 
 -- the row and what comes next, and the buffer
-pub response_line-one : (t : Table) (k : Tasks) (c : RowCursor) (buffer : List ℕ) (r s : RowMade) (x y : List ℕ)
+pub response_line_one : (t : Table) (k : Tasks) (c : RowCursor) (buffer : List ℕ) (r s : RowMade) (x y : List ℕ)
     → ResponseLineIs t k c buffer r x → ResponseLineIs t k c buffer s y → (r ≡ s) × (x ≡ y)
-response_line-one t k c buffer r s x y p q =
+response_line_one t k c buffer r s x y p q =
     (row-made_injective r s (ap (λ (z : RowPrinting). z.says) (p ∙ sym q)), ap (λ (z : RowPrinting). z.buffer) (p ∙ sym q))
 
-pub print_refusal-one : (why : Refusal) (r s : ℕ) → PrintRefusalIs why r → PrintRefusalIs why s → r ≡ s
-print_refusal-one why r s p q = p ∙ sym q
+pub print_refusal_one : (why : Refusal) (r s : ℕ) → PrintRefusalIs why r → PrintRefusalIs why s → r ≡ s
+print_refusal_one why r s p q = p ∙ sym q
 
 pub print_schedule_one : (file : List ℕ) (r s : ℕ) → PrintScheduleIs file r → PrintScheduleIs file s → r ≡ s
 print_schedule_one file r s p q = p ∙ sym q

@@ -27,26 +27,26 @@ use Rattle.nandoquip.specs.Hook.{TableOfIs, HookTickIs, HookTickForIs, HookRelea
 use Rattle.nandoquip.specs.Calls.{FreshInNumbers, AdmissionInNumbers, PartitionResponseInNumbers, StandingInNumbers, BusyLengthInNumbers, CandidatesInNumbers, WeightsInNumbers, DecideInNumbers, RunInNumbers, TaskResponseInNumbers}
 
 -- ---- numbers
-pub test_numbers-one : (test : Test) (r s : Tested) → TestNumbersAre test r → TestNumbersAre test s → r ≡ s
-test_numbers-one test r s p q = p ∙ sym q
+pub test_numbers_one : (test : Test) (r s : Tested) → TestNumbersAre test r → TestNumbersAre test s → r ≡ s
+test_numbers_one test r s p q = p ∙ sym q
 
-pub length_numbers-one : (length : Length) (r s : Lasting) → LengthNumbersAre length r → LengthNumbersAre length s → r ≡ s
-length_numbers-one length r s p q = p ∙ sym q
+pub length_numbers_one : (length : Length) (r s : Lasting) → LengthNumbersAre length r → LengthNumbersAre length s → r ≡ s
+length_numbers_one length r s p q = p ∙ sym q
 
-pub response_numbers-one : (response : Response) (r s : Responded) → ResponseNumbersAre response r → ResponseNumbersAre response s → r ≡ s
-response_numbers-one response r s p q = p ∙ sym q
+pub response_numbers_one : (response : Response) (r s : Responded) → ResponseNumbersAre response r → ResponseNumbersAre response s → r ≡ s
+response_numbers_one response r s p q = p ∙ sym q
 
-pub pick_numbers-one : (decision : Decision) (r s : Picked) → PickNumbersAre decision r → PickNumbersAre decision s → r ≡ s
-pick_numbers-one decision r s p q = p ∙ sym q
+pub pick_numbers_one : (decision : Decision) (r s : Picked) → PickNumbersAre decision r → PickNumbersAre decision s → r ≡ s
+pick_numbers_one decision r s p q = p ∙ sym q
 
-pub change_numbers-one : (changed : Changed) (r s : After) → ChangeNumbersAre changed r → ChangeNumbersAre changed s → r ≡ s
-change_numbers-one changed r s p q = p ∙ sym q
+pub change_numbers_one : (changed : Changed) (r s : After) → ChangeNumbersAre changed r → ChangeNumbersAre changed s → r ≡ s
+change_numbers_one changed r s p q = p ∙ sym q
 
-pub list_numbers-one : (listed : Listed) (r s : ListNumbers) → ListNumbersAre listed r → ListNumbersAre listed s → r ≡ s
-list_numbers-one listed r s p q = p ∙ sym q
+pub list_numbers_one : (listed : Listed) (r s : ListNumbers) → ListNumbersAre listed r → ListNumbersAre listed s → r ≡ s
+list_numbers_one listed r s p q = p ∙ sym q
 
-pub weight_numbers-one : (weighed : Weighed) (r s : WeightNumbers) → WeightNumbersAre weighed r → WeightNumbersAre weighed s → r ≡ s
-weight_numbers-one weighed r s p q = p ∙ sym q
+pub weight_numbers_one : (weighed : Weighed) (r s : WeightNumbers) → WeightNumbersAre weighed r → WeightNumbersAre weighed s → r ≡ s
+weight_numbers_one weighed r s p q = p ∙ sym q
 
 module _ (t : Table) (now : State) where
   pub turn_one : (word : ℕ) (r s : Turned) → TurnIs t now word r → TurnIs t now word s → r ≡ s
