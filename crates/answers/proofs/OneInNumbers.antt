@@ -2,18 +2,16 @@
 use Prim.Native.Nat.{ℕ}
 use mathlib.Core.Path.{◌≡◌, sym, ◌∙◌, ap}
 use mathlib.Core.List.{List}
+use Rattle.std.specs.declared.option.Option.{Option as Found}
+use Rattle.std.specs.declared.result.Result.{Result}
 use Rattle.rules.specs.declared.Part.{Part}
+use Rattle.rules.specs.declared.Refusal.{Refusal}
 use Rattle.rules.specs.declared.Table.{Table}
 use Rattle.rules.specs.declared.Tasks.{Tasks}
-use Rattle.standing.specs.declared.Test.{Test}
-use Rattle.standing.specs.declared.Length.{Length}
 use Rattle.candidates.specs.declared.Listed.{Listed}
 use Rattle.draw.specs.declared.Weighed.{Weighed}
-use Rattle.draw.specs.declared.Decision.{Decision}
 use Rattle.scheduler.specs.declared.State.{State}
-use Rattle.scheduler.specs.declared.Changed.{Changed}
-use Rattle.responses.specs.declared.Response.{Response}
-use Rattle.numbers.specs.Promises.{TestNumbersAre, LengthNumbersAre, ResponseNumbersAre, PickNumbersAre, ChangeNumbersAre, ListNumbersAre, WeightNumbersAre, TurnIs, TurnForIs, ReleasedIs}
+use Rattle.numbers.specs.Promises.{RefusalNumbersAre, VerdictNumbersAre, TestNumbersAre, LengthNumbersAre, ResponseNumbersAre, PickNumbersAre, ChangeNumbersAre, ListNumbersAre, WeightNumbersAre, TurnIs, TurnForIs, ReleasedIs}
 use Rattle.numbers.specs.declared.RefusalNumbers.{RefusalNumbers}
 use Rattle.numbers.specs.declared.Picked.{Picked}
 use Rattle.numbers.specs.declared.Tested.{Tested}
@@ -27,25 +25,31 @@ use Rattle.nandoquip.specs.Hook.{TableOfIs, HookTickIs, HookTickForIs, HookRelea
 use Rattle.nandoquip.specs.Calls.{FreshInNumbers, AdmissionInNumbers, PartitionResponseInNumbers, StandingInNumbers, BusyLengthInNumbers, CandidatesInNumbers, WeightsInNumbers, DecideInNumbers, RunInNumbers, TaskResponseInNumbers}
 
 -- ---- numbers
-pub test_numbers_one : (test : Test) (r s : Tested) → TestNumbersAre test r → TestNumbersAre test s → r ≡ s
+pub refusal_numbers_one : (why : Refusal) (r s : RefusalNumbers) → RefusalNumbersAre why r → RefusalNumbersAre why s → r ≡ s
+refusal_numbers_one why r s p q = p ∙ sym q
+
+pub verdict_numbers_one : (verdict : Result Unit Refusal) (r s : RefusalNumbers) → VerdictNumbersAre verdict r → VerdictNumbersAre verdict s → r ≡ s
+verdict_numbers_one verdict r s p q = p ∙ sym q
+
+pub test_numbers_one : (test : Result (Found ℕ) Refusal) (r s : Tested) → TestNumbersAre test r → TestNumbersAre test s → r ≡ s
 test_numbers_one test r s p q = p ∙ sym q
 
-pub length_numbers_one : (length : Length) (r s : Lasting) → LengthNumbersAre length r → LengthNumbersAre length s → r ≡ s
+pub length_numbers_one : (length : Result (Found ℕ) Refusal) (r s : Lasting) → LengthNumbersAre length r → LengthNumbersAre length s → r ≡ s
 length_numbers_one length r s p q = p ∙ sym q
 
-pub response_numbers_one : (response : Response) (r s : Responded) → ResponseNumbersAre response r → ResponseNumbersAre response s → r ≡ s
+pub response_numbers_one : (response : Result ℕ Refusal) (r s : Responded) → ResponseNumbersAre response r → ResponseNumbersAre response s → r ≡ s
 response_numbers_one response r s p q = p ∙ sym q
 
-pub pick_numbers_one : (decision : Decision) (r s : Picked) → PickNumbersAre decision r → PickNumbersAre decision s → r ≡ s
+pub pick_numbers_one : (decision : Result ℕ Refusal) (r s : Picked) → PickNumbersAre decision r → PickNumbersAre decision s → r ≡ s
 pick_numbers_one decision r s p q = p ∙ sym q
 
-pub change_numbers_one : (changed : Changed) (r s : After) → ChangeNumbersAre changed r → ChangeNumbersAre changed s → r ≡ s
-change_numbers_one changed r s p q = p ∙ sym q
+pub change_numbers_one : (given : State) (changed : Result State Refusal) (r s : After) → ChangeNumbersAre given changed r → ChangeNumbersAre given changed s → r ≡ s
+change_numbers_one given changed r s p q = p ∙ sym q
 
-pub list_numbers_one : (listed : Listed) (r s : ListNumbers) → ListNumbersAre listed r → ListNumbersAre listed s → r ≡ s
+pub list_numbers_one : (listed : Result Listed Refusal) (r s : ListNumbers) → ListNumbersAre listed r → ListNumbersAre listed s → r ≡ s
 list_numbers_one listed r s p q = p ∙ sym q
 
-pub weight_numbers_one : (weighed : Weighed) (r s : WeightNumbers) → WeightNumbersAre weighed r → WeightNumbersAre weighed s → r ≡ s
+pub weight_numbers_one : (weighed : Result Weighed Refusal) (r s : WeightNumbers) → WeightNumbersAre weighed r → WeightNumbersAre weighed s → r ≡ s
 weight_numbers_one weighed r s p q = p ∙ sym q
 
 module _ (t : Table) (now : State) where

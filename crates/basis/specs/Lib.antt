@@ -4,5 +4,7 @@ pub mod Words
 pub mod Reckoned
 -- tables of sums worked by hand
 pub mod Rows
+-- an Option of the code
+pub mod Options
 -- the words at work
 pub mod Shown

@@ -10,11 +10,11 @@ use lib.ListN.{length, replicate, take}
 use Rattle.basis.specs.Words.{padded}
 use Rattle.rules.specs.Candidates.{candidates, inversion}
 use Rattle.laws.proofs.Padded.{padded_used, padded_long}
-use Rattle.busy.specs.Promises.{Found, candidates_of, SearchIs}
+use Rattle.busy.specs.Promises.{Found, ListIs, candidates_of}
 use Rattle.busy.proofs.Nested.{candidates-short}
 
 module _ (n : ℕ) (T B b o : List ℕ) where
-  pub nobody_listed : 16 < n → SearchIs n T B b o (record { list = replicate 17 0; length = 0 })
+  pub nobody_listed : 16 < n → ListIs (candidates_of n T B b o) (record { list = replicate 17 0; length = 0 })
   unfolding padded
   nobody_listed l = record { list = ap (padded 17) (sym none_there); length = ap length (sym none_there) }
     where
@@ -28,7 +28,7 @@ module _ (n : ℕ) (T B b o : List ℕ) where
       go true e = let short = candidates-short n T B b o in let few = leb-true n 16 e in omega arith
       go false e = omega arith
 
-  module _ (r : Found) (found : SearchIs n T B b o r) where
+  module _ (r : Found) (found : ListIs (candidates_of n T B b o) r) where
     pub found_few : r.length ≤ 17
     found_few = let few = few_listed in let same = found.length in omega arith
 

@@ -9,8 +9,6 @@ use native.Mathlib.Nat.{le_antisymm}
 use native.Mathlib.Omega.{arith}
 use borrow.Author.Tests.{lt-ltb, le-ltb}
 use lib.Dec.{ltb}
-use mir.Syntax.{w32}
-use mir.Val.{Fits}
 use Rattle.basis.specs.Words.{◌!◌, sum_below, found}
 use Rattle.basis.specs.Reckoned.{Reckoned}
 use Rattle.rules.specs.BusyLength.{busy_start, refill, passes}
@@ -20,19 +18,13 @@ use Rattle.laws.proofs.Totals.{sum_same, sum-one-more}
 use Rattle.laws.proofs.BusyLength.{passes-found}
 use Rattle.busy.specs.Inner.{Settles, Going, once, Reaches}
 use Rattle.busy.specs.Spans.{span_as}
-use Rattle.busy.specs.declared.Span.{Span}
-use Rattle.busy.specs.declared.Span.TheVariants.{Within, Over}
+use Rattle.std.specs.declared.option.Option.{Option as Found}
 use Rattle.busy.proofs.Refill.{adds_none, adds_one}
+use Rattle.std.specs.Option.{is_some}
+use Rattle.busy.proofs.Ends.{found_as}
 use Rattle.busy.proofs.Repetition.{going_still, going_on, going_nearer, busy_from}
 
 -- ---- one round
-module _ (B o W : ℕ) where
-  pub once-none : W ≤ o → Reckoned 65536 (cond (ltb o W) B 0) 0
-  once-none l = record { is = sym (rw (le-ltb o W l)); small = omega arith }
-
-  pub once-one : o < W → B < 65536 → Reckoned 65536 (cond (ltb o W) B 0) B
-  once-one l small = record { is = sym (rw (lt-ltb o W l)); small = omega arith }
-
 module _ (T B o : List ℕ) (top reach : ℕ) (reaches : Reaches T o top reach) where
   -- a partition that is not replenished twice adds its budget once, or nothing
   once_is : (W : ℕ) → W ≤ reach → (j : ℕ) → j < top → once B o j W ≡ refill T B o j W
@@ -49,18 +41,18 @@ module _ (T B o : List ℕ) (top reach : ℕ) (reaches : Reaches T o top reach) 
   near_sum W r l next = next.is ∙ sum_same top _ _ (once_is W l)
 
 -- ---- the repetition, round by round
-module _ (T B o : List ℕ) (top start D reach : ℕ) (reaches : Reaches T o top reach) (near : ℕ) (in_reach : near ≤ reach) (in_time : near ≤ D) (W : ℕ) (here : Going T B o top start D W) (l : W ≤ near) (r : ℕ) (next : Reckoned 1048577 (sum_below top (λ j. once B o j W)) r) where
+module _ (T B o : List ℕ) (top start D reach : ℕ) (reaches : Reaches T o top reach) (W : ℕ) (here : Going T B o top start D W) (in_reach : W ≤ reach) (in_time : W ≤ D) (r : ℕ) (next : Reckoned 1048577 (sum_below top (λ j. once B o j W)) r) where
   sum_is : r ≡ sum_below top (λ j. refill T B o j W)
-  sum_is = near_sum T B o top reach reaches W r (omega arith) next
+  sum_is = near_sum T B o top reach reaches W r in_reach next
 
-  pub near_still : start + r ≡ W → some W ≡ Settles T B o top start D
-  near_still = going_still T B o top start D W here r sum_is (omega arith)
+  pub near_still : (x : ℕ) → x ≡ W → start + r ≡ W → some x ≡ Settles T B o top start D
+  near_still x e stands = ap some e ∙ going_still T B o top start D W here r sum_is in_time stands
 
   pub near_on : (start + r ≡ W → ⊥) → Going T B o top start D (start + r)
-  near_on = going_on T B o top start D W here r sum_is (omega arith)
+  near_on = going_on T B o top start D W here r sum_is in_time
 
   pub near_nearer : (start + r ≡ W → ⊥) → D + 1 - (start + r) < D + 1 - W
-  near_nearer = going_nearer T B o top start D W here r sum_is (omega arith)
+  near_nearer = going_nearer T B o top start D W here r sum_is in_time
 
 -- ---- the sums go on
 module _ (T b o : List ℕ) where
@@ -77,16 +69,9 @@ module _ (T b o : List ℕ) where
   pub climbed_all : (h until start reach : ℕ) → Climbed h start reach → until ≤ h → h ≤ until → Climbed until start reach
   climbed_all h until start reach here l k = subst (λ (m : ℕ). Climbed m start reach) (le_antisymm k l) here
 
-  module _ (h start reach : ℕ) (here : Climbed h start reach) (x : ℕ) (own : Reckoned 65536 (b ! h) x) where
+  module _ (h start reach : ℕ) (here : Climbed h start reach) (x : ℕ) (own : x ≡ b ! h) (small : x < 65536) where
     pub climb_small : h < 16 → start + x < 2097152
-    climb_small l = let most = here.most in let small = own.small in omega arith
-
-    pub climb_fits : h < 16 → Fits w32 (start + x)
-    climb_fits l = let small = climb_small l in record { fits = omega arith }
-
-    pub climb_start : start + x ≡ busy_start b h inversion
-    unfolding busy_start
-    climb_start = let before = here.start_is in let mine = own.is in omega arith
+    climb_small l = let most = here.most in omega arith
 
     module _ (r : ℕ) (less : r ≤ reach) (nearer : r ≤ o ! h + T ! h) where
       pub climb_reaches : Reaches T o (h + 1) r
@@ -102,9 +87,7 @@ module _ (T b o : List ℕ) where
       pub climb_on : Climbed (h + 1) (start + x) r
       climb_on =
           let most = here.most in
-          let small = own.small in
           let before = here.start_is in
-          let mine = own.is in
           let more = sum-one-more h (λ j. b ! j) in
           record { start_is = omega arith; most = omega arith; reaches = climb_reaches }
 
@@ -117,12 +100,9 @@ reaches_counted T o b h top reach e all-of-them j l = all-of-them j (few (ltb 0 
     few true d = omega arith
     few false d = omega arith
 
-module _ (T B b o : List ℕ) (h : ℕ) (d : ℕ) (due : Reckoned 131072 (cond (ltb 0 (b ! h)) (o ! h) (o ! h + T ! h)) d) (start : ℕ) (begins : start ≡ busy_start b h inversion) (top : ℕ) (counts : top ≡ cond (ltb 0 (b ! h)) h (h + 1)) (x : Span) (ends : span_as x ≡ Settles T B o top start d) where
+module _ (T B b o : List ℕ) (h : ℕ) (d : ℕ) (due : Reckoned 131072 (cond (ltb 0 (b ! h)) (o ! h) (o ! h + T ! h)) d) (start : ℕ) (begins : start ≡ busy_start b h inversion) (top : ℕ) (counts : top ≡ cond (ltb 0 (b ! h)) h (h + 1)) (x : Found ℕ) (ends : span_as x ≡ Settles T B o top start d) where
   passes_as : found (span_as x) ≡ passes T B b o h inversion
   passes_as = ap found (busy_from T B b o h inversion d due start begins top (span_as x) counts ends) ∙ sym (passes-found T B b o h inversion)
 
-  pub passes-within : (W : ℕ) → x ≡ Within W → true ≡ passes T B b o h inversion
-  passes-within W e = sym (ap (λ (s : Span). found (span_as s)) e) ∙ passes_as
-
-  pub passes_over : x ≡ Over → false ≡ passes T B b o h inversion
-  passes_over e = sym (ap (λ (s : Span). found (span_as s)) e) ∙ passes_as
+  pub passes_found : (r : Bool) → r ≡ is_some x → r ≡ passes T B b o h inversion
+  passes_found r e = e ∙ sym (found_as x) ∙ passes_as

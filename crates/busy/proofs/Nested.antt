@@ -17,14 +17,10 @@ use Rattle.rules.specs.Candidates.{may_run, members, idle_listed, candidates, id
 use Rattle.laws.proofs.Tests.{both, and_left, and_right, or_right, never, fails, below_or_not}
 use Rattle.laws.proofs.Places.{true-all, first_some, first-none, has-those, those-has, has_some, has_entry, those_same, map-those_same, those-short, those_stop, those-next, those_skip}
 use Rattle.laws.proofs.Candidates.{first-active_may, failure_ends}
-use Rattle.busy.specs.Promises.{SearchIs}
+use Rattle.busy.specs.Promises.{ListIs, candidates_of}
 use Rattle.laws.proofs.Padded.{padded-next}
 
 -- what small tests amount to
-pub waits_active : (n : ℕ) (b : List ℕ) (c : ℕ) → c < n → ltb 0 (b ! c) ≡ cond (ltb c n) (active b c) true
-unfolding active
-waits_active n b c l = rw (lt-ltb c n l)
-
 pub waits_idle : (n : ℕ) (b : List ℕ) (c : ℕ) → n ≤ c → true ≡ cond (ltb c n) (active b c) true
 waits_idle n b c l = sym (rw (le-ltb c n l))
 
@@ -33,12 +29,6 @@ named_partition n c l = sym (rw (lt-ltb c n l))
 
 pub named_idle : (n c : ℕ) → n ≤ c → 255 ≡ cond (ltb c n) c idle
 named_idle n c l = sym (rw (le-ltb c n l))
-
-pub tests_all : (length passed c : ℕ) → 0 < length → c ≡ cond (ltb 0 length) c passed
-tests_all length passed c l = sym (rw (lt-ltb 0 length l))
-
-pub tests_none : (length passed c : ℕ) → length ≤ 0 → passed ≡ cond (ltb 0 length) c passed
-tests_none length passed c l = sym (rw (le-ltb 0 length l))
 
 module _ (n : ℕ) (T B b o : List ℕ) where
   -- place c of the search is a candidate
@@ -168,7 +158,7 @@ module _ (n : ℕ) (T B b o : List ℕ) where
         }
 
     -- what is listed above c is the whole list
-    listing : n ≤ 16 → candidates n T B b o inversion ≡ named c → SearchIs n T B b o (record { list = list; length = count })
+    listing : n ≤ 16 → candidates n T B b o inversion ≡ named c → ListIs (candidates_of n T B b o) (record { list = list; length = count })
     listing few same = record { list = here.list_is ∙ ap (padded 17) whole; length = here.count_is ∙ ap length whole }
       where
         whole : named c ≡ cond (leb n 16) (candidates n T B b o inversion) []
@@ -231,7 +221,7 @@ module _ (n : ℕ) (T B b o : List ℕ) where
 
       -- the first failed test ends the whole search: nobody further down may run
       pub search_fails : (h : ℕ) (r : Bool) → n ≤ 16 → c < n + 1 → passed ≤ h → h < until → r ≡ passes T B b o h inversion → r ≡ false
-          → SearchIs n T B b o (record { list = list; length = count })
+          → ListIs (candidates_of n T B b o) (record { list = list; length = count })
       unfolding named
       search_fails h r few l k m e off = listing few (named_all ∙ ap (map name) (those_stop c (n + 1) chosen here.within nobody_else))
         where
@@ -256,5 +246,5 @@ module _ (n : ℕ) (T B b o : List ℕ) where
           nobody_else : (j : ℕ) → c ≤ j → j < n + 1 → chosen j ≡ false
           nobody_else j p q = fails (chosen j) (λ in_it. stopped j p (and_right (wants j) _ (opened j in_it)))
 
-    pub search_ends : n ≤ 16 → n + 1 ≤ c → SearchIs n T B b o (record { list = list; length = count })
+    pub search_ends : n ≤ 16 → n + 1 ≤ c → ListIs (candidates_of n T B b o) (record { list = list; length = count })
     search_ends few l = listing few (named_all ∙ ap named (le_antisymm l here.within))

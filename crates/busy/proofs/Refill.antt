@@ -1,17 +1,15 @@
 -- One partition's replenishments: what a comparison decides, and what is left to divide.
-use Prim.Native.Nat.{ℕ, suc, ◌+◌, ◌-◌, ◌*◌, ◌/◌, ◌≤◌, ◌<◌}
-use mathlib.Core.Path.{◌≡◌, refl, sym, ◌∙◌, ap}
-use mathlib.Core.Bool.{cond}
+use Prim.Native.Nat.{ℕ, suc, ◌-◌, ◌*◌, ◌≤◌, ◌<◌}
+use mathlib.Core.Path.{◌≡◌, sym, ◌∙◌, ap}
 use native.Mathlib.Nat.{zero-mul, one-mul}
 use native.Mathlib.Omega.{arith}
-use borrow.Author.Tests.{lt-ltb, le-ltb}
-use lib.Dec.{ltb}
 use mir.Syntax.{w64}
 use mir.Val.{Fits}
 use Rattle.basis.specs.Words.{ceil}
 use Rattle.basis.specs.Reckoned.{Reckoned}
 use Rattle.rules.specs.BusyLength.{arrivals}
-use Rattle.laws.proofs.Ceil.{ceil-times, ceil_by_zero, ceil-zero, ceil_step}
+use Rattle.std.specs.Int.{div_ceil}
+use Rattle.laws.proofs.Ceil.{div_ceil_is, ceil-times, ceil_by_zero, ceil-zero, ceil_step}
 use Rattle.laws.proofs.Arrivals.{arrivals-none}
 
 module _ (T B o W : ℕ) where
@@ -41,26 +39,23 @@ module _ (T B o W : ℕ) where
   unfolding arrivals
   none_ever e = record { is = sym (rw (e, ceil_by_zero (W - o)) (zero-mul B)); small = omega arith }
 
-  module _ (near : W < 131072) (small : B < 65536) where
-    product : (W - o + (T - 1)) / T * B < 8589934592
-    unfolding ceil
+  module _ (near : W < 131072) (small : B < 65536) (some_there : T ≡ 0 → ⊥) (times : ℕ) (up : times ≡ div_ceil (W - o) T) where
+    arrived : times ≡ arrivals o T W
+    unfolding arrivals
+    arrived = up ∙ div_ceil_is (W - o) T (omega arith)
+
+    product : times * B < 8589934592
+    unfolding arrivals
     product =
-        let part : (W - o + (T - 1)) / T * B ≤ 131071 * 65535 = ceil-times (W - o) T B 131071 65535 (omega arith) (omega arith) in
+        let part : ceil (W - o) T * B ≤ 131071 * 65535 = ceil-times (W - o) T B 131071 65535 (omega arith) (omega arith) in
+        let same : times * B ≡ ceil (W - o) T * B = ap (λ t. t * B) arrived in
         omega arith
 
-    pub product_fits : Fits w64 ((W - o + (T - 1)) / T * B)
+    pub product_fits : Fits w64 (times * B)
     product_fits = let p = product in record { fits = omega arith }
 
-    pub divided : Reckoned 8589934592 (arrivals o T W * B) ((W - o + (T - 1)) / T * B)
-    unfolding arrivals ceil
-    divided = record { is = refl; small = product }
+    pub divided : Reckoned 8589934592 (arrivals o T W * B) (times * B)
+    divided = record { is = ap (λ t. t * B) arrived; small = product }
 
--- the deadline of an active partition, and of an inactive one
-pub due_active : (T b o r : ℕ) → 0 < b → Reckoned 65536 o r → Reckoned 131072 (cond (ltb 0 b) o (o + T)) r
-due_active T b o r on mine = let small = mine.small in record { is = rw (lt-ltb 0 b on) mine.is; small = omega arith }
-
-pub due_inactive : (T b o r s : ℕ) → b ≤ 0 → Reckoned 65536 o r → Reckoned 65536 T s → Reckoned 131072 (cond (ltb 0 b) o (o + T)) (r + s)
-due_inactive T b o r s off mine period =
-    let small = mine.small in
-    let short = period.small in
-    record { is = rw (le-ltb 0 b off, mine.is, period.is); small = omega arith }
+-- what refill_of's ends rest on
+pub ruleset refilled = (none_due, one_due, none_ever, product_fits, divided)

@@ -17,12 +17,6 @@ use Rattle.laws.proofs.BusyLength.{refill_mono}
 use Rattle.busy.specs.Inner.{filling, Settles, Going}
 
 -- "b > 0" decides what is counted
-pub counted-above : (b h : ℕ) → 0 < b → h ≡ cond (ltb 0 b) h (h + 1)
-counted-above b h on = sym (rw (lt-ltb 0 b on))
-
-pub counted-own : (b h : ℕ) → b ≤ 0 → h + 1 ≡ cond (ltb 0 b) h (h + 1)
-counted-own b h off = sym (rw (le-ltb 0 b off))
-
 pub counted_few : (b h top : ℕ) → h < 16 → top ≡ cond (ltb 0 b) h (h + 1) → top ≤ 16
 counted_few b h top l e = go (ltb 0 b) e
   where
@@ -107,3 +101,6 @@ module _ (T B b o : List ℕ) (h w : ℕ) (d : ℕ) (due : Reckoned 131072 (cond
     pub busy_settled : (top : ℕ) (x : Option ℕ) → top ≡ cond (ltb 0 (b ! h)) h (h + 1) → x ≡ Settles T B o top (w + mine + above) d
         → x ≡ busy_length T B b o h w
     busy_settled = busy_from (w + mine + above) start_is
+
+-- what the whole test rests on
+pub ruleset whole_test = (counted_few, start_small, going_begins, busy_over, busy_settled)

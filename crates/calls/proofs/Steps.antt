@@ -5,25 +5,28 @@ use mathlib.Core.Bool.{Bool}
 use mathlib.Core.List.{[], ◌∷◌}
 use mathlib.Core.Option.{Option, some, none}
 use lib.ListN.{length}
+use Rattle.std.specs.declared.result.Result.{Result}
+use Rattle.std.specs.declared.result.Result.TheVariants.{Ok, Err}
 use Rattle.rules.specs.Records.{table_bad}
-use Rattle.scheduler.specs.States.{state_bad, pairs, decision_of, tick_of, unlisted}
+use Rattle.scheduler.specs.States.{state_bad, decision_of, tick_of, unlisted}
 use Rattle.basis.specs.Words.{has, unless}
-use Rattle.rules.specs.Numbers.{Pairs, TableInRange, StateInRange}
+use Rattle.rules.specs.Numbers.{TableInRange, StateInRange}
+use Rattle.rules.specs.declared.Pairs.{Pairs}
 use Rattle.rules.specs.Refusals.{Refused, ground, refusal}
+use Rattle.rules.specs.declared.Refusal.{Refusal}
 use Rattle.rules.specs.declared.Table.{Table}
+use Rattle.laws.proofs.Tests.{some_is_none}
 use Rattle.laws.proofs.Refusals.{no_ground, Late, four, late_last, late_alone, refused-first, refused_then}
 use Rattle.laws.proofs.Pick.{decision-allowed}
 use Rattle.verdicts.specs.Outcome.{unless_refused}
-use Rattle.verdicts.specs.Verdicts.{verdict_as}
-use Rattle.verdicts.specs.declared.Verdict.TheVariants as verdict
-use Rattle.draw.specs.Promises.{DecideIs}
-use Rattle.draw.specs.declared.Decision.{Decision}
-use Rattle.scheduler.specs.Promises.{Change, change, changed_as, TickIs}
-use Rattle.runs.specs.Promises.{Step, stepped, StepIs}
+use Rattle.verdicts.proofs.Outcomes.{never_both}
+use Rattle.draw.specs.Promises.{decision_as, DecideIs}
+use Rattle.scheduler.specs.Promises.{TickIs}
+use Rattle.runs.specs.Promises.{Step, stepped_as, stepped, StepIs}
 use Rattle.scheduler.specs.declared.State.{State}
-use Rattle.scheduler.specs.declared.Changed.{Changed}
 use Rattle.runs.specs.declared.Stepped.{Stepped}
-use Rattle.answers.proofs.OneAnswer.{decision_injective, verdict_injective}
+use Rattle.answers.proofs.Injective.{same_injective}
+use Rattle.calls.proofs.Each.{change_not_refused}
 
 -- a third ground that does not apply changes nothing
 no_third : (x y : Option ℕ) {k : ℕ} → Late k → refusal (ground 1 x ∷ ground 3 y ∷ ground k none ∷ []) ≡ refusal (ground 1 x ∷ ground 3 y ∷ [])
@@ -34,15 +37,28 @@ no_third x y {k} late = go (refusal (ground 1 x ∷ ground 3 y ∷ [])) refl
     go (some r) e = refused-first (late_last x y none late) r e
 
 -- a tick for what a word picks is not refused
-pub decision-ticks : (t : Table) (s : State) (word : ℕ) → TableInRange t.count t.period t.budget t.phase → StateInRange t.count t.period t.budget s.b s.o
+pub decision-ticks : (t : Table) (s : State) (word : ℕ) → TableInRange t.count t.period t.budget t.phase → StateInRange t.count t.period t.budget s.pairs.b s.pairs.o
     → refusal (table_bad t ∷ state_bad t s ∷ unlisted t s (decision_of t s word) ∷ []) ≡ none
 unfolding refusal
 decision-ticks t s word good here =
     ap (λ (a : Bool). refusal (table_bad t ∷ state_bad t s ∷ ground 5 (unless a (decision_of t s word)) ∷ []))
-    (decision-allowed t.count t.period t.budget t.phase s.b s.o good here word)
+    (decision-allowed t.count t.period t.budget t.phase s.pairs.b s.pairs.o good here word)
     ∙ rw (good, here.pairs)
 
-module _ (t : Table) (s : State) (word : ℕ) (r : Stepped) (made : StepIs t s word r) where
+-- a step that is not refused
+step_not_refused : (s : State) (r : Result Stepped Refusal) (refused : Option Refused) (before end : Pairs) (pick : ℕ) → stepped_as s r ≡ stepped refused before end pick → refused ≡ none
+    → (x : Stepped) × (r ≡ Ok x) × (x.state.pairs ≡ end)
+unfolding stepped
+step_not_refused s (Ok x) none before end pick e d = (x, refl, ap (λ (z : Step). z.after) e)
+step_not_refused s (Err q) none before end pick e d = never_both (sym (ap (λ (z : Step). z.says) e))
+step_not_refused s r (some why) before end pick e d = some_is_none d
+
+-- the decision of a step
+abbrev pub decision_in : Result Stepped Refusal → Result ℕ Refusal
+decision_in (Ok r) = Ok r.pick
+decision_in (Err q) = Err q
+
+module _ (t : Table) (s : State) (word : ℕ) (r : Result Stepped Refusal) (made : StepIs t s word r) where
   abbrev picked : ℕ
   picked = decision_of t s word
 
@@ -50,36 +66,29 @@ module _ (t : Table) (s : State) (word : ℕ) (r : Stepped) (made : StepIs t s w
   next = tick_of t s picked
 
   -- what a step says is what a decision over its word says
-  said : (x : Option Refused) → (stepped x (pairs s) next picked).says ≡ unless_refused x picked
+  said : (x : Option Refused) → (stepped x s.pairs next picked).says ≡ unless_refused x picked
   unfolding stepped unless_refused
   said none = refl
   said (some q) = refl
 
-  pub step_decides : (d : Decision) → DecideIs t s.b s.o (word ∷ []) d → r.decision ≡ d
+  says : (r : Result Stepped Refusal) → decision_as (decision_in r) ≡ (stepped_as s r).says
+  says (Ok x) = refl
+  says (Err q) = refl
+
+  pub step_decides : (d : Result ℕ Refusal) → DecideIs t s.pairs (word ∷ []) d → decision_in r ≡ d
   step_decides d decided =
-      decision_injective r.decision d
-      (ap (λ (x : Step). x.says) made ∙ said (refusal (table_bad t ∷ state_bad t s ∷ [])) ∙ ap (λ (x : Option Refused). unless_refused x picked) (sym (no_third _ _ four)) ∙ sym decided)
+      same_injective (decision_in r) d
+      (says r ∙ ap (λ (x : Step). x.says) made ∙ said (refusal (table_bad t ∷ state_bad t s ∷ [])) ∙ ap (λ (x : Option Refused). unless_refused x picked) (sym (no_third _ _ four)) ∙ sym decided)
 
   -- where it isn't refused, the tick for its pick isn't either, and gives the same state
-  module _ (bs : length s.b ≡ 16) (os : length s.o ≡ 16) (fine : refusal (table_bad t ∷ state_bad t s ∷ []) ≡ none) where
+  module _ (bs : length s.pairs.b ≡ 16) (os : length s.pairs.o ≡ 16) (fine : refusal (table_bad t ∷ state_bad t s ∷ []) ≡ none) where
     ticks : refusal (table_bad t ∷ state_bad t s ∷ unlisted t s picked ∷ []) ≡ none
     unfolding has
     ticks = decision-ticks t s word (no_ground _ fine 1 refl) (record { budgets = bs; offsets = os; pairs = no_ground _ fine 3 refl })
 
-    after-tick : (x : Option Refused) → x ≡ none → change x (pairs s) next ≡ record { after = next; refused = none }
-    unfolding change
-    after-tick x e = ap (λ (y : Option Refused). change y (pairs s) next) e
-
-    after_step : (x : Option Refused) → x ≡ none → (stepped x (pairs s) next picked).after ≡ next
-    unfolding stepped
-    after_step x e = ap (λ (y : Option Refused). (stepped y (pairs s) next picked).after) e
-
-    pub step_ticks : (k : Changed) → TickIs t s picked k → (r.state ≡ k.state) × (k.verdict ≡ verdict.Good)
-    unfolding verdict_as
-    step_ticks k ticked = ((λ i. record { b = (same i).b; o = (same i).o }), verdict_injective k.verdict verdict.Good (ap (λ (x : Change). x.refused) whole))
-      where
-        whole : changed_as k ≡ record { after = next; refused = none }
-        whole = ticked ∙ after-tick _ ticks
-
-        same : pairs r.state ≡ pairs k.state
-        same = ap (λ (x : Step). x.after) made ∙ after_step _ fine ∙ sym (ap (λ (x : Change). x.after) whole)
+    pub step_ticks : (k : Result State Refusal) → TickIs t s picked k → (x : Stepped) × (r ≡ Ok x) × (k ≡ Ok x.state)
+    step_ticks k ticked =
+        let step = step_not_refused s r _ _ next picked made fine in
+        let tick = change_not_refused s k _ _ next ticked ticks in
+        let same : tick.0 ≡ step.0.state = λ i. record { pairs = (tick.2 ∙ sym step.2) i } in
+        (step.0, step.1, tick.1 ∙ ap Ok same)

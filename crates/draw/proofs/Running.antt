@@ -1,65 +1,57 @@
 -- The running sum of the weights, until it exceeds the position.
 use Prim.Native.Nat.{ℕ, ◌+◌, ◌*◌, ◌≤◌, ◌<◌}
-use mathlib.Core.Path.{◌≡◌, refl, sym, ◌∙◌, ap, ap₂, subst}
+use mathlib.Core.Path.{◌≡◌, refl, sym, ◌∙◌, ap, ap₂}
 use mathlib.Core.Bool.{cond}
-use mathlib.Core.List.{List, [], ◌∷◌}
-use native.Mathlib.Nat.{le_antisymm}
+use mathlib.Core.List.{List, [], ◌∷◌, ◌++◌}
 use native.Mathlib.Numerals.{add-one}
 use native.Mathlib.Omega.{arith}
 use borrow.Author.Tests.{lt-ltb, le-ltb}
 use lib.Dec.{ltb}
-use lib.ListN.{length, take, drop}
-use lib.Seq.{drop-cons, drop-length, get_or-take, length-take-le}
+use lib.ListN.{length, drop, get_or}
+use lib.Seq.{drop-cons}
+use Rattle.std.proofs.lemmas.List.{drop_all}
 use Rattle.basis.specs.Words.{◌!◌, total}
 use Rattle.rules.specs.Candidates.{idle}
 use Rattle.rules.specs.Pick.{first_exceeding}
-use Rattle.basis.specs.Reckoned.{Reckoned}
 
-module _ (list ws : List ℕ) (used at : ℕ) where
-  -- what the whole loop gives
-  abbrev Whole : ℕ
-  Whole = first_exceeding at 0 (take used list) (take used ws)
-
+module _ (list ws : List ℕ) (at : ℕ) where
   -- the loop has come to i
   pub record RunTo (i running : ℕ) : Type 0 where
-    pub same : first_exceeding at running (drop i (take used list)) (drop i (take used ws)) ≡ first_exceeding at 0 (take used list) (take used ws)
+    pub same : first_exceeding at running (drop i list) (drop i ws) ≡ first_exceeding at 0 list ws
     pub most : running ≤ i * 4294967296
 
-  pub run_begins : RunTo 0 0
-  run_begins = record { same = refl; most = omega arith }
+  module _ (i running : ℕ) (here : RunTo i running) where
+    module _ (c x : ℕ) (turn : (i < length list) × (i < length ws) × ((d : ℕ) → c ≡ get_or list i d) × ((d : ℕ) → x ≡ get_or ws i d)) where
+      opened : (xs : List ℕ) (y : ℕ) → i < length xs → y ≡ xs ! i → drop i xs ≡ y ∷ drop (i + 1) xs
+      opened xs y k e = drop-cons xs i 0 k ∙ ap₂ (λ (z j : ℕ). z ∷ drop j xs) (sym e) (sym (add-one i))
 
-  module _ (fits : used ≤ length list) (beside : used ≤ length ws) (i running : ℕ) (here : RunTo i running) where
-    module _ (l : i < used) (x : ℕ) (next : Reckoned 4294967296 (ws ! i) x) where
-      opened : (xs : List ℕ) → used ≤ length xs → drop i (take used xs) ≡ xs ! i ∷ drop (i + 1) (take used xs)
-      opened xs long =
-          drop-cons (take used xs) i 0 (rw (length-take-le used xs long) l)
-          ∙ ap₂ (λ (y : ℕ) (m : ℕ). y ∷ drop m (take used xs)) (get_or-take used xs i 0 l) (sym (add-one i))
-
-      step : Whole ≡ cond (ltb at (running + ws ! i)) (list ! i) (first_exceeding at (running + ws ! i) (drop (i + 1) (take used list)) (drop (i + 1) (take used ws)))
+      step : first_exceeding at 0 list ws ≡ cond (ltb at (running + x)) c (first_exceeding at (running + x) (drop (i + 1) list) (drop (i + 1) ws))
       unfolding first_exceeding
-      step = sym here.same ∙ ap₂ (λ (cs xs : List ℕ). first_exceeding at running cs xs) (opened list fits) (opened ws beside)
+      step = sym here.same ∙ ap₂ (λ (cs xs : List ℕ). first_exceeding at running cs xs) (opened list c turn.0 (turn.2 0)) (opened ws x turn.1 (turn.3 0))
 
-      sum_is : running + x ≡ running + ws ! i
-      sum_is = ap (λ y. running + y) next.is
+      pub run-exceeds : at < running + x → c ≡ first_exceeding at 0 list ws
+      run-exceeds more = sym (step ∙ rw (lt-ltb at (running + x) more))
 
-      pub run-exceeds : at < running + x → list ! i ≡ first_exceeding at 0 (take used list) (take used ws)
-      run-exceeds more = sym (step ∙ rw (lt-ltb at (running + ws ! i) (subst (λ (y : ℕ). at < y) sum_is more)))
-
-      pub run_on : running + x ≤ at → RunTo (i + 1) (running + x)
-      run_on less =
+      pub run_on : ((j : ℕ) → ws ! j < 4294967296) → (y : ℕ) → y ≡ x → running + y ≤ at → (next : ℕ) → next ≡ i + 1 → RunTo next (running + y)
+      run_on small y as_read less next one_more =
           let most = here.most in
-          let small = next.small in
+          let fits = small i in
+          let is = turn.3 0 in
           record {
-            same = rw sum_is (sym (step ∙ rw (le-ltb at (running + ws ! i) (subst (λ (y : ℕ). y ≤ at) sum_is less))));
+            same = rw (one_more, as_read) (sym (step ∙ rw (le-ltb at (running + x) (omega arith))));
             most = omega arith;
           }
 
-    pub run_ends : used ≤ i → i ≤ used → 255 ≡ first_exceeding at 0 (take used list) (take used ws)
+    pub run_ends : length list ≤ i → 255 ≡ first_exceeding at 0 list ws
     unfolding first_exceeding
-    run_ends l k = sym (ap₂ (λ (cs xs : List ℕ). first_exceeding at running cs xs) (over list fits) (over ws beside)) ∙ here.same
-      where
-        over : (xs : List ℕ) → used ≤ length xs → drop i (take used xs) ≡ []
-        over xs long = ap (λ m. drop m (take used xs)) (le_antisymm k l ∙ sym (length-take-le used xs long)) ∙ drop-length (take used xs)
+    run_ends l = sym (ap (λ (cs : List ℕ). first_exceeding at running cs (drop i ws)) (drop_all i list l)) ∙ here.same
+
+-- weights beyond the list are not seen
+pub rest_unseen : (at running : ℕ) (cs xs ys : List ℕ) → length cs ≡ length xs → first_exceeding at running cs (xs ++ ys) ≡ first_exceeding at running cs xs
+unfolding first_exceeding
+rest_unseen at running [] xs ys same = refl
+rest_unseen at running (c ∷ cs) [] ys same = absurd (omega arith)
+rest_unseen at running (c ∷ cs) (x ∷ xs) ys same = ap (λ (later : ℕ). cond (ltb at (running + x)) c later) (rest_unseen at (running + x) cs xs ys (omega arith))
 
 -- a list that weighs nothing has no pick: idle
 pub weightless : (at : ℕ) (cs xs : List ℕ) → total xs ≡ 0 → first_exceeding at 0 cs xs ≡ idle

@@ -1,179 +1,133 @@
 // The draw: the weights of the candidates, and the pick that a word makes among them.
 #![tactic(auto)]
 
-ghost use Rattle.std.specs.Prelude.{◌≡◌, ◌⊎◌, ◌*◌, ◌/◌, ◌<◌, ◌≤◌, take};
-ghost use Rattle.std.proofs.Math.ListN as Seq;
+ghost use Rattle.std.specs.Prelude.{◌≡◌, ◌⊎◌, ◌*◌, ◌/◌, ◌<◌, ◌≤◌, length};
 ghost use Rattle.rules.specs.Candidates.{idle};
 ghost use Rattle.rules.specs.Weights.{idle_weight};
 ghost use Rattle.rules.specs.Pick.{position, first_exceeding};
-ghost use Rattle.basis.specs.Reckoned.{Reckoned};
 ghost use Rattle.draw.specs.Inner.{weight_of, Usable, ScalesAre};
 ghost use Rattle.draw.specs.Promises.{ChooseIs, WeightsAre, DecideIs};
 
 use busy::search::search;
 use pairs::judge;
-use rules::{Refusal, Table};
-use verdicts::Verdict;
+use rules::{Pairs, Refusal, Table};
 
-// The weights beside the list, as an answer. On a refusal all places are 0.
+// The weights beside the list, as an answer. The places from `length` on are 0. Arrays and a length, as in `candidates`; flat, as C's struct has it.
 #[derive(Clone, Copy)]
 pub struct Weighed {
     pub list: [u8; 17],
     pub weights: [u32; 17],
     pub length: usize,
-    pub verdict: Verdict,
-}
-
-// The pick, with idle as 255.
-#[derive(Clone, Copy)]
-pub enum Decision {
-    Pick(u8),
-    Refused(Refusal),
 }
 
 // A partition weighs floor(65,536·b/o).
 fn weight(b: u16, o: u16) -> u32
     ensures { result ≡ 65536 * b / o }
 {
-    let whole = o as u32;
-    if whole == 0 {
+    if o == 0 {
         return 0;
     }
-    65536 * (b as u32) / whole
+    65536 * u32::from(b) / u32::from(o)
 }
 
-// Idle weighs 65,536 minus the others' sum, or 0 where that would be negative.
+// Idle weighs 65,536 minus the others' sum, or 0 where that would be negative. `as`, since the rest becomes narrower.
+#[tactic(auto, unfolding(rules::specs::Weights::idle_weight))]
 fn idle_weight(sum: u64) -> u32
     ensures { result ≡ idle_weight sum }
 {
-    if sum > 65536 {
-        return 0;
-    }
-    (65536 - sum) as u32
+    65536u64.saturating_sub(sum) as u32
 }
 
-// What the candidate `c` weighs, where those before it weigh `sum`.
-fn weight_of<'s>(b: &'s [u16; 16], o: &'s [u16; 16], sum: u64, c: u8) -> u32
+// What the candidate `c` weighs, where those before it weigh `sum`. 255 is idle: 01 has the list as bytes, and C reads it so.
+#[tactic(auto, unfolding(crate::specs::Inner::weight_of, rules::specs::Weights::weight))]
+fn weight_of(p: &Pairs, sum: u64, c: u8) -> u32
     requires { (c < 16) ⊎ (c ≡ idle) }
-    ensures { result ≡ weight_of b.now o.now sum c }
+    ensures { result ≡ weight_of p.now.b p.now.o sum c }
 {
     if c == 255 {
         return idle_weight(sum);
     }
-    let i = c as usize;
-    weight(b[i], o[i])
+    let i = usize::from(c);
+    weight(p.b[i], p.o[i])
 }
 
-// The weights of the first `length` of the list into the lent places, and their sum; the other places become 0.
-fn weigh<'s>(
-    b: &'s [u16; 16],
-    o: &'s [u16; 16],
-    list: &[u8; 17],
-    length: usize,
-    weights: &mut [u32; 17],
-) -> u64
-    requires { Usable list.now length }
-    ensures { ScalesAre b.now o.now (take length list.now) (record { weights = weights.exit.now; sum = result }) }
+// The weights of the listed into the first of the lent places, and their sum.
+#[tactic(auto, unfolding(crate::specs::Inner::weighed, basis::specs::Words::total))]
+fn weigh(p: &Pairs, list: &[u8], weights: &mut [u32; 17]) -> u64
+    requires { Usable list.now }
+    ensures { ScalesAre p.now.b p.now.o list.now weights.old (record { weights = weights.new; sum = result }) }
 {
-    *weights = [0u32; 17];
-    let mut sum: u64 = 0;
-    for i in 0..length {
-        let x = weight_of(b, o, sum, list[i]);
+    let mut sum = 0;
+    // By index: no invariant can name the weights while a `zip` lends them.
+    for (i, &c) in list.iter().enumerate() {
+        let x = weight_of(p, sum, c);
         weights[i] = x;
-        sum += x as u64;
+        sum += u64::from(x);
     }
     sum
 }
 
-// A weight as a number to reckon with.
-fn heavy(x: u32) -> u64
-    ensures { Reckoned 4294967296 x result }
-{
-    x as u64
-}
-
-// The first candidate whose running sum of weights exceeds `at`.
-fn pick_at(list: &[u8; 17], weights: &[u32; 17], length: usize, at: u64) -> u8
-    requires { (length ≤ 17) × ((length ≤ Seq.length list.now) × (length ≤ Seq.length weights.now)) }
-    ensures { result ≡ first_exceeding at 0 (take length list.now) (take length weights.now) }
+// The first candidate whose running sum of weights exceeds `at`. 255 is idle, here and in `choose`.
+fn pick_at(list: &[u8], weights: &[u32; 17], at: u64) -> u8
+    requires { length list.now ≤ 17 }
+    ensures { result ≡ first_exceeding at 0 list.now weights.now }
 {
     let mut running = 0;
-    for i in 0..length {
-        running += heavy(weights[i]);
+    for (&c, &x) in list.iter().zip(weights) {
+        running += u64::from(x);
         if at < running {
-            return list[i];
+            return c;
         }
     }
     255
 }
 
 // Where a word points: the remainder by the sum of the weights.
+#[tactic(auto, unfolding(rules::specs::Pick::position))]
 fn position(word: u32, sum: u64) -> u64
     requires { 0 < sum }
     ensures { result ≡ position word sum }
 {
-    (word as u64) % sum
+    u64::from(word) % sum
 }
 
 // One decision: the pick that the word makes. No table has more than 16 partitions, and for those it is idle.
-pub fn choose<'t, 's>(
-    n: usize,
-    period: &'t [u16; 16],
-    budget: &'t [u16; 16],
-    b: &'s [u16; 16],
-    o: &'s [u16; 16],
-    word: u32,
-) -> u8
-    ensures { ChooseIs n period.now budget.now b.now o.now word result }
+pub fn choose(t: &Table, p: &Pairs, word: u32) -> u8
+    ensures { ChooseIs t.now p.now word result }
 {
     let mut list = [0u8; 17];
     let mut weights = [0u32; 17];
-    let length = search(n, period, budget, b, o, &mut list);
-    let sum = weigh(b, o, &list, length, &mut weights);
+    let length = search(t, p, &mut list);
+    let list = &list[..length];
+    let sum = weigh(p, list, &mut weights);
     if sum == 0 {
         return 255;
     }
     let at = position(word, sum);
-    pick_at(&list, &weights, length, at)
+    pick_at(list, &weights, at)
 }
 
 // The weights beside the candidate list. Refusals 1 and 3.
-pub fn weights<'s>(t: Table, b: &'s [u16; 16], o: &'s [u16; 16]) -> Weighed
-    ensures { WeightsAre t b.now o.now result }
+pub fn weights(t: Table, p: &Pairs) -> Result<Weighed, Refusal>
+    ensures { WeightsAre t p.now result }
 {
-    let n = t.count;
-    let judged = judge(n, &t.period, &t.budget, &t.phase, b, o);
-    if let Verdict::Refused(r) = judged {
-        return Weighed {
-            list: [0u8; 17],
-            weights: [0u32; 17],
-            length: 0,
-            verdict: Verdict::Refused(r),
-        };
-    }
+    judge(&t, p)?;
     let mut list = [0u8; 17];
     let mut weights = [0u32; 17];
-    let length = search(n, &t.period, &t.budget, b, o, &mut list);
-    weigh(b, o, &list, length, &mut weights);
-    Weighed {
+    let length = search(&t, p, &mut list);
+    weigh(p, &list[..length], &mut weights);
+    Ok(Weighed {
         list,
         weights,
         length,
-        verdict: Verdict::Good,
-    }
+    })
 }
 
 // One decision over lent words: it uses the first. Refusals 1, 3 and 4.
-pub fn decide<'s>(t: Table, b: &'s [u16; 16], o: &'s [u16; 16], words: &[u32]) -> Decision
-    ensures { DecideIs t b.now o.now words.now result }
+pub fn decide(t: Table, p: &Pairs, words: &[u32]) -> Result<u8, Refusal>
+    ensures { DecideIs t p.now words.now result }
 {
-    let n = t.count;
-    let judged = judge(n, &t.period, &t.budget, &t.phase, b, o);
-    if let Verdict::Refused(r) = judged {
-        return Decision::Refused(r);
-    }
-    if words.len() == 0 {
-        return Decision::Refused(Refusal::NoWord);
-    }
-    Decision::Pick(choose(n, &t.period, &t.budget, b, o, words[0]))
+    judge(&t, p)?;
+    let word = words.first().ok_or(Refusal::NoWord)?;
+    Ok(choose(&t, p, *word))
 }

@@ -4,7 +4,7 @@ use Prim.Native.String.{String, [] as no_text, ◌∷◌ as ◌then◌}
 use Prim.Native.Char.{code}
 use Rattle.std.proofs.Math.Option.{Option, some, none}
 use Rattle.basis.specs.Words.{◌!◌}
-use Rattle.rules.specs.Numbers.{Pairs}
+use Rattle.rules.specs.declared.Pairs.{Pairs}
 use Rattle.rules.specs.FreshStart.{fresh_start}
 use Rattle.rules.specs.Candidates.{idle}
 use Rattle.rules.specs.TaskResponse.{rank_of, response_of_task}

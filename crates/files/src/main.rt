@@ -5,41 +5,35 @@ use input::read_full;
 use response_printing::print_response;
 use schedule_printing::print_schedule;
 use std::env::FillError;
-use std::io::Write;
 use std::rt::{Env, Files};
 use std::{fs, io, str};
-
-fn text(rt: &impl Print, words: &[u8]) -> io::Result<()> {
-    io::writer(rt).write_all(words)
-}
 
 // Both outputs of one file.
 fn print_both(rt: &impl Print, file: &[u8]) -> io::Result<()> {
     print_schedule(&mut io::writer(rt), file)?;
-    text(rt, b"--\n")?;
+    println!(rt; "--")?;
     print_response(&mut io::writer(rt), file)?;
     Ok(())
 }
 
 // The file of one name; one that can't be opened is said so.
 fn print_named(rt: &(impl Files + Print), name: &[u8]) -> io::Result<()> {
-    text(rt, b"== ")?;
-    text(rt, name)?;
-    text(rt, b"\n")?;
-    let Ok(path) = str::from_utf8(name) else {
-        return text(rt, b"can't be opened\n");
+    print!(rt; "== ")?;
+    rt.write_all(name)?;
+    println!(rt; "")?;
+    let opened = str::from_utf8(name)
+        .ok()
+        .and_then(|path| fs::open(rt, path).ok());
+    let Some(mut file) = opened else {
+        return println!(rt; "can't be opened");
     };
-    match fs::open(rt, path) {
-        Err(_) => text(rt, b"can't be opened\n"),
-        Ok(mut file) => {
-            let mut space = [0u8; 65537];
-            let length = read_full(&mut file, &mut space)?;
-            print_both(rt, &space[..length])
-        }
-    }
+    let mut space = [0u8; 65537];
+    let length = read_full(&mut file, &mut space)?;
+    print_both(rt, &space[..length])
 }
 
 fn main(rt: HostRuntime) -> io::Result<()> {
+    // By number: std's `args` wants a heap.
     for i in 1..usize::MAX {
         let mut space = [0u8; 256];
         let length = match rt.arg(i, &mut space) {

@@ -3,7 +3,7 @@ use mathlib.Core.List.{List, [], ◌∷◌}
 use mathlib.Core.Path.{refl}
 use lib.ListN.{take}
 use Rattle.basis.specs.Rows.{Row, ◌is◌, Hold, number, test}
-use Rattle.rules.specs.Numbers.{Pairs}
+use Rattle.rules.specs.declared.Pairs.{Pairs}
 use Rattle.rules.specs.FreshStart.{fresh_start}
 use Rattle.rules.specs.Candidates.{idle}
 use Rattle.rules.specs.Tick.{spend}

@@ -10,7 +10,8 @@ use lib.Dec.{eqb}
 use lib.ListN.{set}
 use lib.Seq.{get_or-set_same, get_or-set_other}
 use Rattle.basis.specs.Words.{◌!◌}
-use Rattle.rules.specs.Numbers.{Pairs, TableInRange, StateInRange}
+use Rattle.rules.specs.Numbers.{TableInRange, StateInRange}
+use Rattle.rules.specs.declared.Pairs.{Pairs}
 use Rattle.rules.specs.Candidates.{inversion}
 use Rattle.rules.specs.BusyLength.{passes}
 use Rattle.rules.specs.Tick.{spend, replenishes, pass_time, tick, tick_allowed}

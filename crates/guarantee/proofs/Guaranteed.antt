@@ -9,7 +9,7 @@ use native.Mathlib.Omega.{arith}
 use borrow.Author.Tests.{eqb-true, eqb-false}
 use lib.Dec.{eqb}
 use Rattle.basis.specs.Words.{◌!◌}
-use Rattle.rules.specs.Numbers.{Pairs}
+use Rattle.rules.specs.declared.Pairs.{Pairs}
 use Rattle.rules.specs.BusyLength.{active}
 use Rattle.rules.specs.FreshStart.{fresh_start}
 use Rattle.rules.specs.Tick.{replenishes}

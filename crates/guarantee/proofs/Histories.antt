@@ -2,7 +2,7 @@
 use mathlib.Core.Path.{◌≡◌, refl}
 use mathlib.Core.Bool.{true}
 use mathlib.Core.List.{List, [], ◌∷◌, ◌++◌}
-use Rattle.rules.specs.Numbers.{Pairs}
+use Rattle.rules.specs.declared.Pairs.{Pairs}
 use Rattle.laws.proofs.Tests.{both, and_left, and_right}
 use Rattle.guarantee.specs.Histories.{Event, Scheduler, allowed, next, all_allowed, after}
 

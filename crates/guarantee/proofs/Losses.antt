@@ -4,7 +4,7 @@ use mathlib.Core.Path.{◌≡◌, refl}
 use mathlib.Core.List.{List, [], ◌∷◌}
 use native.Mathlib.Nat.{le_refl}
 use native.Mathlib.Omega.{arith}
-use Rattle.rules.specs.Numbers.{Pairs}
+use Rattle.rules.specs.declared.Pairs.{Pairs}
 use Rattle.rules.specs.Candidates.{may_run, members, idle_listed, candidates, idle, inversion}
 use Rattle.laws.proofs.Admission.{admitted_exactly}
 use Rattle.guarantee.proofs.Worked.{history_worked}

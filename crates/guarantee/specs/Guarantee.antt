@@ -1,7 +1,8 @@
 -- The guarantee, clause by clause: quotation marks enclose what is promised of this scheduler. The proofs are in proofs/Guaranteed.antt.
 use Rattle.std.specs.Prelude.{ℕ, ◌+◌, ◌≤◌, ◌<◌, true, List, [], ◌∷◌, ◌++◌, ◌≡◌}
 use Rattle.basis.specs.Words.{◌!◌}
-use Rattle.rules.specs.Numbers.{Pairs, TableInRange, StateInRange}
+use Rattle.rules.specs.Numbers.{TableInRange, StateInRange}
+use Rattle.rules.specs.declared.Pairs.{Pairs}
 use Rattle.rules.specs.Admission.{Admitted}
 use Rattle.rules.specs.StandingTest.{Stands}
 use Rattle.rules.specs.FreshStart.{fresh_start}

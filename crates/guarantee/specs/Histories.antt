@@ -1,7 +1,7 @@
 -- Histories: what happens to a state, tick by tick and release by release, and what is counted in it.
 use Rattle.std.specs.Prelude.{ℕ, ◌+◌, Bool, true, false, cond, ◌&&◌, List, [], ◌∷◌, ◌≡◌, eqb}
 use Rattle.basis.specs.Words.{◌!◌, has}
-use Rattle.rules.specs.Numbers.{Pairs}
+use Rattle.rules.specs.declared.Pairs.{Pairs}
 use Rattle.rules.specs.Candidates.{candidates, inversion}
 use Rattle.rules.specs.Tick.{replenishes, tick}
 use Rattle.rules.specs.Release.{release, release_allowed}

@@ -2,7 +2,8 @@
 use Rattle.std.specs.Prelude.{ℕ, ◌+◌, ◌<◌, Bool, true, cond, not, ◌&&◌, ◌||◌, List, [], ◌∷◌, ◌++◌, ◌≡◌, replicate}
 use Rattle.std.proofs.Math.Option.{some}
 use Rattle.basis.specs.Words.{◌!◌, all, those}
-use Rattle.rules.specs.Numbers.{Pairs, TableInRange, StateInRange}
+use Rattle.rules.specs.Numbers.{TableInRange, StateInRange}
+use Rattle.rules.specs.declared.Pairs.{Pairs}
 use Rattle.rules.specs.Admission.{first_unadmitted}
 use Rattle.rules.specs.StandingTest.{first_failing}
 use Rattle.rules.specs.BusyLength.{active, passes}

@@ -1,4 +1,4 @@
-// A buffer, filled from a reader.
+// A buffer, filled from a reader. std's `read_exact` wants the whole buffer and its `read_to_end` a heap, and io's `read_full` is for a descriptor, in a library that crates.txt can't list.
 #![tactic(auto)]
 
 ghost use Rattle.std.specs.Prelude.{ℕ, ◌≤◌, ◌<◌, length, take, IfOk, OnErr};

@@ -16,7 +16,8 @@ use Rattle.laws.proofs.Totals.{sum_same}
 use Rattle.laws.proofs.Places.{first_same, all_same, those_same}
 use Rattle.laws.proofs.Filled.{filled_same}
 use Rattle.laws.proofs.TaskResponse.{others_apart}
-use Rattle.rules.specs.Numbers.{most_partitions, most_tasks, partition_in_range, first_bad_partition, task_in_range, first_bad_task, pair_in_range, first_bad_pair, Pairs}
+use Rattle.rules.specs.Numbers.{most_partitions, most_tasks, partition_in_range, first_bad_partition, task_in_range, first_bad_task, pair_in_range, first_bad_pair}
+use Rattle.rules.specs.declared.Pairs.{Pairs}
 use Rattle.rules.specs.Admission.{demand, at_rest, response_within, first_unadmitted}
 use Rattle.rules.specs.FreshStart.{fresh_b, fresh_o, fresh_start, zeros}
 use Rattle.rules.specs.BusyLength.{active, busy_start, refill, busy_sum, deadline, busy_length, passes}

@@ -1,8 +1,10 @@
 -- The quotient rounded up. The first two laws are all that the others, and every rule, need to know of division.
 use Prim.Native.Nat.{ℕ, zero, suc, ◌+◌, ◌-◌, ◌*◌, ◌≤◌, ◌<◌}
 use mathlib.Core.Path.{◌≡◌}
-use native.Mathlib.Nat.{div-lt_iff_lt-mul, div-zero, le_refl, le_trans, le_antisymm, mul-le-mul, zero-mul, le_of_suc-le-suc, le_of_eq}
+use native.Mathlib.Nat.{div-lt_iff_lt-mul, div-zero, le_refl, le_trans, le_antisymm, mul-le-mul, zero-mul, le_of_suc-le-suc, le_of_eq, lt_of_mul-lt-mul_right}
 use native.Mathlib.Omega.{arith}
+use Rattle.std.specs.Int.{div_ceil}
+use Rattle.std.proofs.lemmas.Grind.{div_ceil_times}
 use Rattle.basis.specs.Words.{ceil}
 
 pub ceil_le : (x T m : ℕ) → 0 < T → x ≤ m * T → ceil x T ≤ m
@@ -51,3 +53,13 @@ ceil_step x T pos h =
     down : (m : ℕ) → x ≤ m * T → suc (ceil (x - T) T) ≤ m
     down zero w = let none : zero * T ≡ 0 = zero-mul T in omega arith
     down (suc m) w = let less : ceil (x - T) T ≤ m = ceil_le (x - T) T m pos (omega arith) in omega arith
+
+-- std's quotient rounded up is 01's
+pub div_ceil_is : (x T : ℕ) → 0 < T → div_ceil x T ≡ ceil x T
+div_ceil_is x T pos = le_antisymm (nearest (div_ceil x T) (ceil x T) times.1 (le_ceil x T (ceil x T) pos (le_refl (ceil x T)))) (ceil_le x T (div_ceil x T) pos times.0)
+  where
+    times : (x ≤ div_ceil x T * T) × (div_ceil x T * T < x + T)
+    times = div_ceil_times x T pos
+
+    nearest : (d c : ℕ) → d * T < x + T → x ≤ c * T → d ≤ c
+    nearest d c less enough = let few : d < suc c = lt_of_mul-lt-mul_right T (omega arith) in omega arith

@@ -3,11 +3,13 @@ pub mod Tests
 pub mod Ceil
 pub mod Totals
 pub mod Places
+-- what `find` answers over a range
+pub mod Found
 pub mod Filled
 pub mod Padded
 pub mod Settle
--- sums as a loop makes them
-pub mod Reckoning
+-- sums as a chain makes them
+pub mod Sums
 -- Then those about the rules: a file has the name of the rules that its laws are about.
 pub mod Numbers
 pub mod Arrivals

@@ -11,7 +11,7 @@ use native.Mathlib.Omega.{arith}
 use borrow.Author.Tests.{eqb-true, eq-eqb, ne_eqb}
 use lib.Dec.{eqb}
 use lib.ListN.{length, take, length-append, get_or-append}
-use lib.Seq.{get_or-append_seam, get_or-take, take-suc, length-take-le, take_all}
+use lib.Seq.{get_or-append_seam, take-suc, take_all}
 use Rattle.basis.specs.Words.{◌!◌, has, all, those, first, or_else, Increasing}
 use Rattle.laws.proofs.Tests.{both, and_left, and_right, or_left, or_right, or_cases, never, below_or_not, below_cases, some_is_none, none_is_some}
 
@@ -270,15 +270,8 @@ has-take-next xs i m x y l fits before same other =
     ∙ has-append (take i xs) (xs ! i ∷ []) x
     ∙ rw (before, ne_eqb x (xs ! i) (λ e. other (same ∙ sym e)))
 
-pub has-take_here : (xs : List ℕ) (i m x y : ℕ) → i < m → m ≤ length xs → y ≡ xs ! i → y ≡ x → true ≡ has (take m xs) x
-has-take_here xs i m x y l fits same here =
-    sym (subst (λ (z : ℕ). has (take m xs) z ≡ true) (get_or-take m xs i 0 l ∙ sym same ∙ here) (has_entry (take m xs) i (rw (length-take-le m xs fits) l)))
-
 pub has_here : (xs : List ℕ) (i x : ℕ) → i < length xs → xs ! i ≡ x → true ≡ has xs x
 has_here xs i x l e = sym (subst (λ (z : ℕ). has xs z ≡ true) e (has_entry xs i l))
 
 pub has_nowhere : (xs : List ℕ) (i x : ℕ) → length xs ≤ i → has (take i xs) x ≡ false → false ≡ has xs x
 has_nowhere xs i x l e = sym (subst (λ (ys : List ℕ). has ys x ≡ false) (take_all i xs l) e)
-
-pub has-take-none : (xs : List ℕ) (i m x : ℕ) → m ≤ i → i ≤ m → has (take i xs) x ≡ false → false ≡ has (take m xs) x
-has-take-none xs i m x l k before = sym (subst (λ (j : ℕ). has (take j xs) x ≡ false) (le_antisymm k l) before)

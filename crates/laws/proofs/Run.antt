@@ -7,7 +7,8 @@ use native.Mathlib.Nat.{le_of_suc-le-suc}
 use native.Mathlib.Omega.{arith}
 use lib.ListN.{length, take}
 use Rattle.basis.specs.Words.{◌!◌, has}
-use Rattle.rules.specs.Numbers.{Pairs, TableInRange, StateInRange}
+use Rattle.rules.specs.Numbers.{TableInRange, StateInRange}
+use Rattle.rules.specs.declared.Pairs.{Pairs}
 use Rattle.rules.specs.Candidates.{candidates, inversion}
 use Rattle.rules.specs.Pick.{decision}
 use Rattle.rules.specs.Tick.{tick}

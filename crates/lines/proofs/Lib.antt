@@ -1,6 +1,6 @@
 -- bytes put into a buffer, one text after the other
 pub mod Puts
--- a number's digits, one after the other
+-- the digits of a number
 pub mod Decimals
 -- a line by its fields
 pub mod Parts

@@ -1,151 +1,115 @@
--- A line by its fields: what each is, how long they are together, and one written after the other.
-use Prim.Native.Nat.{ℕ, ◌+◌, ◌≤◌, ◌<◌}
-use mathlib.Core.Path.{◌≡◌, sym, ◌∙◌, ap, ap₂, subst, subst⁻¹}
-use mathlib.Core.Bool.{cond}
-use mathlib.Core.List.{List, [], ◌∷◌, ◌++◌, append_assoc}
+-- A line by its fields: how long they are together, and one written after the other.
+use Prim.Native.Nat.{ℕ, zero, suc, ◌+◌, ◌*◌, ◌≤◌, ◌<◌}
+use mathlib.Core.Path.{◌≡◌, refl, sym, ◌∙◌, ap, subst}
+use mathlib.Core.List.{List, [], ◌∷◌, ◌++◌, append_assoc, append-nil}
 use native.Mathlib.Omega.{arith}
-use borrow.Author.Tests.{eq-eqb, ne_eqb}
-use lib.Dec.{eqb}
-use lib.ListN.{length, set, length-set, length-append}
-use mir.Syntax.{w64}
-use mir.Val.{Fits}
+use native.Mathlib.Numerals.{add-one}
+use lib.ListN.{length, set, get_or, take, length-set, length-append}
+use lib.Seq.{take_all}
+use Rattle.std.specs.declared.option.Option.{Option as Found}
+use Rattle.std.specs.declared.option.Option.TheVariants.{Some, None}
 use Rattle.basis.specs.Reckoned.{Reckoned}
-use Rattle.file_rules.specs.Printers.{decimal, pick_text, response_text}
-use Rattle.rules.specs.Refusals.{refused_as}
-use Rattle.rules.specs.declared.Refusal.{Refusal}
-use Rattle.lines.specs.Lines.{bytes_of}
-use Rattle.lines.specs.Fields.{first_text, later_text, line_of, Put}
+use Rattle.lines.specs.Fields.{field_text, later_text, line_of, Put}
 use Rattle.lines.specs.declared.Fields.{Fields}
-use Rattle.lines.specs.declared.First.{First}
-use Rattle.lines.specs.declared.First.TheVariants as first
-use Rattle.lines.specs.declared.Later.{Later}
-use Rattle.lines.specs.declared.Later.TheVariants as later
-use Rattle.lines.specs.declared.Line.{Line}
-use Rattle.lines.specs.declared.Line.TheVariants as line
-use Rattle.lines.proofs.Decimals.{digits_most}
-use Rattle.lines.proofs.Puts.{put_byte, put_length, put_room, put_then}
+use Rattle.lines.specs.declared.Field.{Field}
+use Rattle.lines.proofs.Puts.{put_byte, put_length, put_then}
 
--- ---- a field that is a word at one number, and that number otherwise
-module _ (n x : ℕ) (word : List ℕ) where
-  pub by_word : n ≡ x → 32 ∷ word ≡ 32 ∷ cond (eqb n x) word (decimal n)
-  by_word e = rw (eq-eqb n x e)
+-- ---- later fields, one by one
+one_later : (later : List (Found Field)) (i : ℕ) → later_text (take (suc i) later) ≡ later_text (take i later) ++ later_text (get_or later i None ∷ [])
+one_later [] zero = refl
+one_later [] (suc i) = refl
+one_later (None ∷ more) zero = refl
+one_later (Some f ∷ more) zero = refl
+one_later (None ∷ more) (suc i) = one_later more i
+one_later (Some f ∷ more) (suc i) = ap (λ (text : List ℕ). 32 ∷ field_text f ++ text) (one_later more i) ∙ sym (append_assoc (32 ∷ field_text f) (later_text (take i more)) _)
 
-  pub by_number : (n ≡ x → ⊥) → 32 ∷ decimal n ≡ 32 ∷ cond (eqb n x) word (decimal n)
-  by_number e = rw (ne_eqb n x e)
+first_ones : (later : List (Found Field)) (i : ℕ) → length (later_text (take i later)) ≤ length (later_text later)
+first_ones [] zero = omega arith
+first_ones [] (suc i) = omega arith
+first_ones (x ∷ later) zero = omega arith
+first_ones (None ∷ later) (suc i) = first_ones later i
+first_ones (Some x ∷ later) (suc i) = let l = first_ones later i in simp length-append (omega arith)
 
--- ---- a field that is known
-module _ {A : Type 0} (text : A → List ℕ) {f g : A} (same : f ≡ g) where
-  pub room_as : (at long : ℕ) → at + length (text f) ≤ long → at + length (text g) ≤ long
-  room_as at long h = subst (λ (x : A). at + length (text x) ≤ long) same h
-
-  pub put_as : {at r : ℕ} {a b : List ℕ} → Put at (text g) a b r → Put at (text f) a b r
-  put_as {at} {r} {a} {b} p = subst⁻¹ (λ (x : A). Put at (text x) a b r) same p
-
-module _ (n count : ℕ) (counted : count ≡ length (decimal n)) where
-  pub length_of_first : {f : First} → f ≡ first.Number n → Reckoned 24 (length (first_text f)) count
-  length_of_first {f} same = record { is = rw same counted; small = let most = digits_most 20 n in omega arith }
-
-  pub length_of_later : {f : Later} → f ≡ later.Number n → Reckoned 24 (length (later_text f)) (1 + count)
-  length_of_later {f} same = record { is = rw same (omega arith); small = let most = digits_most 20 n in omega arith }
-
-  pub later_fits : Fits w64 (1 + count)
-  later_fits = let most = digits_most 20 n in record { fits = omega arith }
-
--- a number with a space before it
-pub space_room : (at n long : ℕ) → at + length (32 ∷ decimal n) ≤ long → at < long
-space_room at n long fits = omega arith
-
-pub number-after : (at n : ℕ) (buf : List ℕ) → at + length (32 ∷ decimal n) ≤ length buf → at + 1 + length (decimal n) ≤ length (set buf at 32)
-number-after at n buf fits = let l = length-set buf at 32 in omega arith
-
--- ---- the fields of each line
-module _ {l : Line} where
-  pub schedule_header_is : l ≡ line.ScheduleHeader → line_of (first.ScheduleHeader, later.Nothing, later.Nothing, later.Nothing) ≡ bytes_of l
-  unfolding line_of bytes_of
-  schedule_header_is same = sym (ap bytes_of same)
-
-  pub response_header_is : l ≡ line.ResponseHeader → line_of (first.ResponseHeader, later.Nothing, later.Nothing, later.Nothing) ≡ bytes_of l
-  unfolding line_of bytes_of
-  response_header_is same = sym (ap bytes_of same)
-
-  pub tick_is : {ticks pick : ℕ} (f : Later) → l ≡ line.Tick ticks pick → later_text f ≡ 32 ∷ pick_text pick
-      → line_of (first.Number ticks, f, later.Nothing, later.Nothing) ≡ bytes_of l
-  unfolding line_of bytes_of
-  tick_is {ticks} f same e = ap (λ (text : List ℕ). decimal ticks ++ (text ++ 10 ∷ [])) e ∙ sym (ap bytes_of same)
-
-  pub release_is : {ticks index : ℕ} → l ≡ line.Release ticks index → line_of (first.Number ticks, later.Release, later.Number index, later.Nothing) ≡ bytes_of l
-  unfolding line_of bytes_of
-  release_is same = sym (ap bytes_of same)
-
-  pub response_is : {partition rank ticks : ℕ} (f : Later) → l ≡ line.Response partition rank ticks → later_text f ≡ 32 ∷ response_text ticks
-      → line_of (first.Number partition, later.Number rank, f, later.Nothing) ≡ bytes_of l
-  unfolding line_of bytes_of
-  response_is {partition} {rank} f same e =
-      ap (λ (text : List ℕ). decimal partition ++ 32 ∷ (decimal rank ++ (text ++ 10 ∷ []))) e ∙ sym (ap bytes_of same)
-
-  pub end_is : {count : ℕ} → l ≡ line.End count → line_of (first.End, later.Number count, later.Nothing, later.Nothing) ≡ bytes_of l
-  unfolding line_of bytes_of
-  end_is same = sym (ap bytes_of same)
-
-  pub refused_is : {r : Refusal} (number second : ℕ) → l ≡ line.Refused r → (number ≡ (refused_as r).number) × (second ≡ (refused_as r).second)
-      → line_of (first.Refused, later.Number number, later.At, later.Number second) ≡ bytes_of l
-  unfolding line_of bytes_of
-  refused_is {r} number second same e =
-      ap₂ (λ (n m : ℕ). line_of (first.Refused, later.Number n, later.At, later.Number m)) e.0 e.1 ∙ sym (ap bytes_of same)
-
--- ---- the fields together
+-- ---- the fields, of which a loop has come to later field i
 module _ (f : Fields) where
-  pub lengths : length (line_of f) ≡ length (first_text f.0) + (length (later_text f.1) + (length (later_text f.2) + (length (later_text f.3) + 1)))
+  abbrev pub so_far : ℕ → List ℕ
+  so_far i = field_text f.first ++ later_text (take i f.later)
+
+  more : (i : ℕ) (x : Found Field) → get_or f.later i None ≡ x → so_far (i + 1) ≡ so_far i ++ later_text (x ∷ [])
+  more i x e =
+      ap (λ (text : List ℕ). field_text f.first ++ text) (ap (λ j. later_text (take j f.later)) (add-one i) ∙ one_later f.later i ∙ ap (λ (y : Found Field). later_text (take i f.later) ++ later_text (y ∷ [])) e)
+      ∙ sym (append_assoc (field_text f.first) (later_text (take i f.later)) (later_text (x ∷ [])))
+
+  same : (i : ℕ) → get_or f.later i None ≡ None → so_far (i + 1) ≡ so_far i
+  same i e = more i None e ∙ append-nil (so_far i)
+
+  longer : (i : ℕ) (x : Field) → get_or f.later i None ≡ Some x → so_far (i + 1) ≡ so_far i ++ (32 ∷ field_text x)
+  longer i x e = more i (Some x) e ∙ ap (λ (text : List ℕ). so_far i ++ (32 ∷ text)) (append-nil (field_text x))
+
+  all_of_it : (i : ℕ) → length f.later ≤ i → so_far i ++ 10 ∷ [] ≡ line_of f
   unfolding line_of
-  lengths = simp length-append
+  all_of_it i l = append_assoc (field_text f.first) (later_text (take i f.later)) (10 ∷ []) ∙ ap (λ (later : List (Found Field)). field_text f.first ++ (later_text later ++ 10 ∷ [])) (take_all i f.later l)
 
-  pub summed : (a b c d : ℕ) → a ≡ length (first_text f.0) → b ≡ length (later_text f.1) → c ≡ length (later_text f.2) → d ≡ length (later_text f.3) → a + b + c + d + 1 ≡ length (line_of f)
-  summed a b c d p q r s = let l = lengths in omega arith
+  -- ---- counted
+  pub record LengthTo (i count : ℕ) : Type 0 where
+    pub is : count ≡ length (so_far i) + 1
+    pub small : count ≤ 25 + i * 25
 
-  -- one after the other into a buffer with room for them
-  module _ (start : List ℕ) (fits : length (line_of f) ≤ length start) where
-    all_room : 0 + (length (first_text f.0) + (length (later_text f.1) + (length (later_text f.2) + (length (later_text f.3) + 1)))) ≤ length start
-    all_room = let l = lengths in omega arith
+  pub count_begins : (count : ℕ) → Reckoned 24 (length (field_text f.first)) count → LengthTo 0 (count + 1)
+  count_begins count e = record { is = ap (λ n. n + 1) e.is ∙ ap (λ (text : List ℕ). length text + 1) (sym (append-nil (field_text f.first))); small = let s = e.small in omega arith }
 
-    pub first_room : 0 + length (first_text f.0) ≤ length start
-    first_room = let l = all_room in omega arith
+  module _ (i count : ℕ) (here : LengthTo i count) where
+    pub count_skips : get_or f.later i None ≡ None → LengthTo (i + 1) count
+    count_skips e = record { is = here.is ∙ ap (λ (text : List ℕ). length text + 1) (sym (same i e)); small = let s = here.small in omega arith }
 
-    module _ {a : ℕ} {first : List ℕ} (p : Put 0 (first_text f.0) start first a) where
-      left_1 : a + (length (later_text f.1) + (length (later_text f.2) + (length (later_text f.3) + 1))) ≤ length first
-      left_1 = put_room p _ all_room
+    pub count_goes_on : (x : Field) → get_or f.later i None ≡ Some x → (n : ℕ) → Reckoned 24 (length (field_text x)) n → LengthTo (i + 1) (count + (1 + n))
+    count_goes_on x e n r =
+        let now = here.is in
+        let of_it = r.is in
+        let l = ap length (longer i x e) ∙ length-append (so_far i) (32 ∷ field_text x) in
+        record { is = omega arith; small = let s = here.small in let k = r.small in omega arith }
 
-      pub second_room : a + length (later_text f.1) ≤ length first
-      second_room = let l = left_1 in omega arith
+    pub count_ends : length f.later ≤ i → count ≡ length (line_of f)
+    count_ends l = here.is ∙ sym (length-append (so_far i) (10 ∷ [])) ∙ ap length (all_of_it i l)
 
-      module _ {b : ℕ} {second : List ℕ} (q : Put a (later_text f.1) first second b) where
-        left_2 : b + (length (later_text f.2) + (length (later_text f.3) + 1)) ≤ length second
-        left_2 = put_room q _ left_1
+  -- ---- written, into a buffer with room for them
+  pub record PutTo (start : List ℕ) (i at : ℕ) (buf : List ℕ) : Type 0 where
+    pub so : Put 0 (so_far i) start buf at
 
-        pub third_room : b + length (later_text f.2) ≤ length second
-        third_room = let l = left_2 in omega arith
+  module _ (start : List ℕ) (room : length (line_of f) ≤ length start) where
+    room_to : (i : ℕ) → length (so_far i) + 1 ≤ length start
+    unfolding line_of
+    room_to i =
+        let l = first_ones f.later i in
+        let k : length (field_text f.first) + (length (later_text f.later) + 1) ≤ length start = simp length-append at room in
+        simp length-append (omega arith)
 
-        module _ {c : ℕ} {third : List ℕ} (r : Put b (later_text f.2) second third c) where
-          left_3 : c + (length (later_text f.3) + 1) ≤ length third
-          left_3 = put_room r _ left_2
+    pub first_room : 0 + length (field_text f.first) ≤ length start
+    first_room = let l = room_to 0 in let k = length-append (field_text f.first) [] in omega arith
 
-          pub fourth_room : c + length (later_text f.3) ≤ length third
-          fourth_room = let l = left_3 in omega arith
+    pub put_begins : (at : ℕ) (buf : List ℕ) → Put 0 (field_text f.first) start buf at → PutTo start 0 at buf
+    put_begins at buf p = record { so = subst (λ (text : List ℕ). Put 0 text start buf at) (sym (append-nil (field_text f.first))) p }
 
-          module _ {d : ℕ} {fourth : List ℕ} (s : Put c (later_text f.3) third fourth d) where
-            pub end_room : d < length fourth
-            end_room = let l = put_room s 1 left_3 in omega arith
+    module _ (i at : ℕ) (buf : List ℕ) (here : PutTo start i at buf) where
+      pub place_there : at < length buf
+      place_there = let l = room_to i in let n = here.so.next in let k = put_length here.so in omega arith
 
-            long : length fourth ≡ length start
-            long = put_length s ∙ put_length r ∙ put_length q ∙ put_length p
+      pub put_skips : get_or f.later i None ≡ None → PutTo start (i + 1) at buf
+      put_skips e = record { so = subst (λ (text : List ℕ). Put 0 text start buf at) (sym (same i e)) here.so }
 
-            pub end_below : d < length start
-            end_below = let l = end_room in let k = long in omega arith
+      module _ (x : Field) (e : get_or f.later i None ≡ Some x) where
+        pub next_room : at + 1 + length (field_text x) ≤ length (set buf at 32)
+        next_room =
+            let r = room_to (i + 1) in
+            let l = ap length (longer i x e) ∙ length-append (so_far i) (32 ∷ field_text x) in
+            let n = here.so.next in
+            let k = put_length here.so in
+            let s = length-set buf at 32 in
+            omega arith
 
-            pub end_kept : (x : ℕ) → length (set fourth d x) ≡ length start
-            end_kept x = length-set fourth d x ∙ long
+        pub put_goes_on : (next : ℕ) (after : List ℕ) → Put (at + 1) (field_text x) (set buf at 32) after next → PutTo start (i + 1) next after
+        put_goes_on next after p =
+            record { so = subst (λ (text : List ℕ). Put 0 text start after next) (sym (longer i x e)) (put_then here.so (put_then (put_byte at 32 buf) p)) }
 
-            pub whole_line : Put 0 (line_of f) start (set fourth d 10) (d + 1)
-            unfolding line_of
-            whole_line =
-                let put = put_then (put_then (put_then (put_then p q) r) s) (put_byte d 10 fourth) in
-                subst (λ (bytes : List ℕ). Put 0 bytes start (set fourth d 10) (d + 1)) (simp append_assoc) put
+      pub put_ends : length f.later ≤ i → Put 0 (line_of f) start (set buf at 10) (at + 1)
+      put_ends l = subst (λ (text : List ℕ). Put 0 text start (set buf at 10) (at + 1)) (all_of_it i l) (put_then here.so (put_byte at 10 buf))

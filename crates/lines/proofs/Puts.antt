@@ -1,23 +1,21 @@
 -- Bytes put into a buffer, one text after the other.
-use Prim.Native.Nat.{ℕ, suc, ◌+◌, ◌≤◌, ◌<◌}
+use Prim.Native.Nat.{ℕ, suc, ◌+◌, ◌-◌, ◌≤◌}
 use mathlib.Core.Path.{◌≡◌, refl, sym, ◌∙◌, ap, ap₂}
-use mathlib.Core.List.{List, [], ◌∷◌, ◌++◌}
-use native.Mathlib.Nat.{add-zero, zero-add, add-suc, suc-add, le_of_lt}
-use native.Mathlib.Numerals.{add-one}
+use mathlib.Core.List.{List, [], ◌∷◌, ◌++◌, append_assoc}
+use native.Mathlib.Nat.{add-zero, zero-add, add-suc, suc-add}
 use native.Mathlib.Omega.{arith}
-use lib.ListN.{length, set, get_or, take, drop, length-append}
-use lib.Seq.{sets, length-sets, sets-eq, set_comm, take-suc, take_all, length-take-le}
-use Rattle.lines.specs.Fields.{Put}
+use borrow.Rule.Slice.PartMut.{put_mid}
+use lib.ListN.{length, set, take, drop, length-append}
+use lib.Seq.{sets, length-sets, sets-eq}
+use Rattle.std.proofs.lemmas.List.{take-append-drop}
+use Rattle.std.proofs.lemmas.List.Edits.{paste_all}
+use Rattle.std.proofs.lemmas.Slice.{put_mid-paste}
 use Rattle.basis.specs.Words.{onto}
+use Rattle.lines.specs.Fields.{Put}
 
 -- ---- runs of stores
--- a store before them may be made first
-pub set-sets : (xs l : List ℕ) (i j a : ℕ) → j < i → set (sets l i xs) j a ≡ sets (set l j a) i xs
-set-sets [] l i j a h = refl
-set-sets (x ∷ xs) l i j a h = set-sets xs (set l i x) (suc i) j a (omega arith) ∙ ap (λ (m : List ℕ). sets m (suc i) xs) (set_comm l i j x a (λ e. omega arith))
-
 -- one after the other is one run
-pub sets-append : (xs ys l : List ℕ) (i : ℕ) → sets (sets l i xs) (i + length xs) ys ≡ sets l i (xs ++ ys)
+sets-append : (xs ys l : List ℕ) (i : ℕ) → sets (sets l i xs) (i + length xs) ys ≡ sets l i (xs ++ ys)
 sets-append [] ys l i = ap (λ j. sets l j ys) (add-zero i)
 sets-append (x ∷ xs) ys l i =
     ap (λ j. sets (sets (set l i x) (suc i) xs) j ys) (add-suc i (length xs) ∙ sym (suc-add i (length xs)))
@@ -28,19 +26,12 @@ pub sets-onto : (xs l : List ℕ) → length xs ≤ length l → sets l 0 xs ≡
 sets-onto xs l h = sets-eq xs l 0 (rw (zero-add (length xs)) h) ∙ ap (λ n. xs ++ drop n l) (zero-add (length xs))
 
 -- ---- texts
-pub put_nothing : (at : ℕ) (buf : List ℕ) → Put at [] buf buf at
-put_nothing at buf = record { next = sym (add-zero at); buffer = refl }
-
 pub put_byte : (at x : ℕ) (buf : List ℕ) → Put at (x ∷ []) buf (set buf at x) (at + 1)
 put_byte at x buf = record { next = refl; buffer = refl }
 
 module _ {at m : ℕ} {xs a b : List ℕ} (p : Put at xs a b m) where
   pub put_length : length b ≡ length a
   put_length = ap length p.buffer ∙ length-sets a at xs
-
-  -- room for what comes after it
-  pub put_room : (more : ℕ) → at + (length xs + more) ≤ length a → m + more ≤ length b
-  put_room more h = let n = p.next in let l = put_length in omega arith
 
   pub put_then : {ys c : List ℕ} {r : ℕ} → Put m ys b c r → Put at (xs ++ ys) a c r
   put_then {ys} {c} {r} q =
@@ -49,26 +40,31 @@ module _ {at m : ℕ} {xs a b : List ℕ} (p : Put at xs a b m) where
         buffer = q.buffer ∙ ap₂ (λ (l : List ℕ) (j : ℕ). sets l j ys) p.buffer p.next ∙ sets-append xs ys a at;
       }
 
--- ---- a copy in a loop
-module _ (text before : List ℕ) (at : ℕ) where
-  pub record CopiedTo (i : ℕ) (buf : List ℕ) : Type 0 where
-    pub filled : buf ≡ sets before at (take i text)
+-- a text put into its part of a buffer, of which the bytes before and after stay
+module _ (at : ℕ) (text before : List ℕ) (room : at + length text ≤ length before) where
+  whole : take at before ++ (text ++ drop (at + length text) before) ≡ sets before at text
+  whole = sym (sets-eq text before at room ∙ append_assoc (take at before) text _)
 
-  pub copy_begins : CopiedTo 0 before
-  copy_begins = record { filled = refl }
+  pub put_copied : (copy : List ℕ) → copy ≡ text → (count : ℕ) → count ≡ length text → Put at text before (put_mid at (at + count - at) before copy) (at + count)
+  put_copied copy same count counted =
+      record {
+        next = ap (λ n. at + n) counted;
+        buffer =
+            put_mid-paste at (at + count - at) before copy text (length text) same (omega arith) refl
+            ∙ paste_all before at text (length text) refl
+            ∙ whole;
+      }
 
-  module _ (i : ℕ) (buf : List ℕ) (here : CopiedTo i buf) where
-    pub copy_long : length buf ≡ length before
-    copy_long = ap length here.filled ∙ length-sets before at (take i text)
-
-    pub copy_goes_on : i < length text → CopiedTo (i + 1) (set buf (at + i) (get_or text i 0))
-    copy_goes_on l =
-        record {
-          filled =
-              ap₂ (λ (b : List ℕ) (j : ℕ). set b (at + j) (get_or text i 0)) here.filled (sym (length-take-le i text (le_of_lt l)))
-              ∙ sets-append (take i text) (get_or text i 0 ∷ []) before at
-              ∙ ap (sets before at) (sym (ap (λ j. take j text) (add-one i) ∙ take-suc text i 0 l));
-        }
-
-    pub copy_ends : length text ≤ i → Put at text before buf (at + length text)
-    copy_ends l = record { next = refl; buffer = here.filled ∙ ap (sets before at) (take_all i text l) }
+  pub put_digits : (start : ℕ) (after digits : List ℕ) → digits ≡ text → (count : ℕ) → count ≡ length text → start + length digits ≡ at + count
+      → take start after ≡ take start before → drop start after ≡ digits ++ drop (at + count) before → Put at text before after (at + count)
+  put_digits start after digits same count counted ends low high =
+      record {
+        next = ap (λ n. at + n) counted;
+        buffer =
+            sym (take-append-drop at after)
+            ∙ ap₂ (λ (xs ys : List ℕ). xs ++ ys) (rw there at low) (rw (there, same, counted) at high)
+            ∙ whole;
+      }
+    where
+      there : start ≡ at
+      there = let l : length digits ≡ length text = ap length same in omega arith

@@ -1,15 +1,16 @@
 // The lines of the two printers, written into a lent buffer.
 #![tactic(auto)]
 
-ghost use Rattle.std.specs.Prelude.{◌+◌, ◌≤◌, ◌∷◌, ◌≡◌, length};
+ghost use Rattle.std.specs.Prelude.{◌+◌, ◌≤◌, ◌<◌, ◌≡◌, length};
 ghost use Rattle.basis.specs.Reckoned.{Reckoned};
 ghost use Rattle.file_rules.specs.Printers.{decimal, pick_text, response_text};
 ghost use Rattle.lines.specs.Lines.{bytes_of};
-ghost use Rattle.lines.specs.Fields.{first_text, later_text, line_of, Put};
-ghost use Rattle.lines.specs.Promises.{LineLengthIs, WriteLineIs};
+ghost use Rattle.lines.specs.Fields.{word_text, field_text, line_of, Put};
+ghost use Rattle.lines.specs.Promises.{LineLengthIs, WriteLineIs, PutLineIs};
 
+use itoa::write_digits;
 use rules::Refusal;
-use verdicts::numbers;
+use verdicts::Numbered;
 
 // A line of a printer: what its fields are.
 #[derive(Clone, Copy)]
@@ -27,220 +28,180 @@ pub enum Line {
     Refused(Refusal),
 }
 
-// The bytes written, or why not.
+// A line of so many bytes, and what comes next, if anything does.
 #[derive(Clone, Copy)]
-pub enum Written {
-    Bytes(usize),
-    Refused(Refusal),
+pub struct Made<C> {
+    pub length: usize,
+    pub next: Option<C>,
 }
 
-// The first field of a line; a header is one field.
+// A header is one word.
 #[derive(Clone, Copy)]
-enum First {
+enum Word {
     ScheduleHeader,
     ResponseHeader,
     End,
     Refused,
-    Number(u64),
-}
-
-// A later field of a line, which has a space before it, or nothing.
-#[derive(Clone, Copy)]
-enum Later {
-    Nothing,
     Idle,
     Release,
     Late,
     At,
+}
+
+#[derive(Clone, Copy)]
+enum Field {
+    Word(Word),
     Number(u64),
 }
 
-// The fields of a line, in order, as many as it has.
+// The fields of a line, in order. A later one has a space before it.
 #[derive(Clone, Copy)]
-struct Fields(First, Later, Later, Later);
+struct Fields {
+    first: Field,
+    later: [Option<Field>; 3],
+}
 
-// How many digits a number has.
+// A word, byte for byte.
+fn bytes(word: Word) -> &'static [u8]
+    ensures { result.now ≡ word_text word }
+{
+    match word {
+        Word::ScheduleHeader => b"tick pick",
+        Word::ResponseHeader => b"partition task response",
+        Word::End => b"end",
+        Word::Refused => b"refused",
+        Word::Idle => b"idle",
+        Word::Release => b"release",
+        Word::Late => b"late",
+        Word::At => b"at",
+    }
+}
+
+// How many digits a number has. `as` here and below: there is no `From` of a u32 to a usize, nor of a usize to a u64.
+#[tactic(auto, using(crate::proofs::Decimals::digits_counted))]
 fn digits(n: u64) -> usize
     ensures { result ≡ length (decimal n) }
 {
-    let mut count = 1;
-    let mut left = n;
-    while 10 <= left {
-        left = left / 10;
-        count += 1;
-    }
-    count
+    n.max(1).ilog10() as usize + 1
 }
 
-// Copies a text into the buffer from a place on, and gives the place after it.
-fn put(text: &[u8], buf: &mut [u8], at: usize) -> usize
-    requires { at + length text.now ≤ length buf.old }
-    ensures { Put at text.now buf.old buf.new result }
-{
-    for i in 0..text.len() {
-        buf[at + i] = text[i];
-    }
-    at + text.len()
-}
-
-// Writes a number in decimal, its last digit first.
-fn put_number(n: u64, buf: &mut [u8], at: usize) -> usize
-    requires { at + length (decimal n) ≤ length buf.old }
-    ensures { Put at (decimal n) buf.old buf.new result }
-{
-    let end = at + digits(n);
-    let mut i = end;
-    let mut left = n;
-    loop {
-        i -= 1;
-        buf[i] = b'0' + (left % 10) as u8;
-        if left < 10 {
-            return end;
-        }
-        left = left / 10;
-    }
-}
-
-// How many bytes a first field has.
-fn first_length(f: First) -> usize
-    ensures { Reckoned 24 (length (first_text f)) result }
+// How many bytes a field has.
+#[tactic(auto, using(crate::proofs::Decimals::digits_most))]
+fn field_length(f: Field) -> usize
+    ensures { Reckoned 24 (length (field_text f)) result }
 {
     match f {
-        First::ScheduleHeader => 9,
-        First::ResponseHeader => 23,
-        First::End => 3,
-        First::Refused => 7,
-        First::Number(n) => digits(n),
+        Field::Word(word) => bytes(word).len(),
+        Field::Number(n) => digits(n),
     }
 }
 
-// How many bytes a later field has, with the space before it.
-fn later_length(f: Later) -> usize
-    ensures { Reckoned 24 (length (later_text f)) result }
+// Writes a field to a place in the buffer, and gives the place after it.
+#[tactic(auto, using(crate::proofs::Decimals::same_digits, crate::proofs::Puts::put_copied, crate::proofs::Puts::put_digits))]
+fn put_field(f: Field, buf: &mut [u8], at: usize) -> usize
+    requires { at + length (field_text f) ≤ length buf.old }
+    ensures { Put at (field_text f) buf.old buf.new result }
 {
+    let end = at + field_length(f);
     match f {
-        Later::Nothing => 0,
-        Later::Idle => 5,
-        Later::Release => 8,
-        Later::Late => 5,
-        Later::At => 3,
-        Later::Number(n) => 1 + digits(n),
-    }
-}
-
-// Writes a first field, the words byte for byte.
-fn put_first(f: First, buf: &mut [u8], at: usize) -> usize
-    requires { at + length (first_text f) ≤ length buf.old }
-    ensures { Put at (first_text f) buf.old buf.new result }
-{
-    match f {
-        First::ScheduleHeader => put(b"tick pick", buf, at),
-        First::ResponseHeader => put(b"partition task response", buf, at),
-        First::End => put(b"end", buf, at),
-        First::Refused => put(b"refused", buf, at),
-        First::Number(n) => put_number(n, buf, at),
-    }
-}
-
-// Writes a later field, with the space before it.
-fn put_later(f: Later, buf: &mut [u8], at: usize) -> usize
-    requires { at + length (later_text f) ≤ length buf.old }
-    ensures { Put at (later_text f) buf.old buf.new result }
-{
-    match f {
-        Later::Nothing => at,
-        Later::Idle => put(b" idle", buf, at),
-        Later::Release => put(b" release", buf, at),
-        Later::Late => put(b" late", buf, at),
-        Later::At => put(b" at", buf, at),
-        Later::Number(n) => {
-            buf[at] = b' ';
-            put_number(n, buf, at + 1)
+        Field::Word(word) => buf[at..end].copy_from_slice(bytes(word)),
+        Field::Number(n) => {
+            write_digits(n, buf, end);
         }
     }
+    end
 }
 
 // How many bytes a line of these fields has.
+#[tactic(auto, using(crate::proofs::Parts::count_begins, crate::proofs::Parts::count_ends))]
 fn fields_length(f: Fields) -> usize
     ensures { result ≡ length (line_of f) }
 {
-    let first = f.0;
-    let second = f.1;
-    let third = f.2;
-    let fourth = f.3;
-    first_length(first) + later_length(second) + later_length(third) + later_length(fourth) + 1
+    let mut length = field_length(f.first) + 1;
+    for later in f.later {
+        if let Some(field) = later {
+            length += 1 + field_length(field);
+        }
+    }
+    length
 }
 
 // Writes the fields of a line, and its end.
+#[tactic(auto, using(crate::proofs::Parts::first_room, crate::proofs::Parts::place_there, crate::proofs::Parts::next_room, crate::proofs::Parts::put_begins))]
 fn put_fields(f: Fields, buf: &mut [u8]) -> usize
     requires { length (line_of f) ≤ length buf.old }
     ensures { Put 0 (line_of f) buf.old buf.new result }
 {
-    let first = f.0;
-    let second = f.1;
-    let third = f.2;
-    let fourth = f.3;
-    let mut at = put_first(first, buf, 0);
-    at = put_later(second, buf, at);
-    at = put_later(third, buf, at);
-    at = put_later(fourth, buf, at);
+    let mut at = put_field(f.first, buf, 0);
+    for later in f.later {
+        if let Some(field) = later {
+            buf[at] = b' ';
+            at = put_field(field, buf, at + 1);
+        }
+    }
     buf[at] = b'\n';
     at + 1
 }
 
-// A pick as a field: 255 is idle.
-fn pick_field(pick: u8) -> Later
-    ensures { later_text result ≡ 32 ∷ pick_text pick }
+// A pick as a field: 255 is idle, as 01 has it.
+fn pick_field(pick: u8) -> Field
+    ensures { field_text result ≡ pick_text pick }
 {
     if pick == 255 {
-        return Later::Idle;
+        return Field::Word(Word::Idle);
     }
-    Later::Number(pick as u64)
+    Field::Number(u64::from(pick))
 }
 
-// A response as a field: 0 is late.
-fn response_field(ticks: u64) -> Later
-    ensures { later_text result ≡ 32 ∷ response_text ticks }
+// A response as a field: 0 is late, as 01 has it.
+fn response_field(ticks: u64) -> Field
+    ensures { field_text result ≡ response_text ticks }
 {
     if ticks == 0 {
-        return Later::Late;
+        return Field::Word(Word::Late);
     }
-    Later::Number(ticks)
+    Field::Number(ticks)
 }
 
 // A line as its fields.
+#[tactic(auto, unfolding(crate::specs::Lines::bytes_of, crate::specs::Fields::line_of))]
 fn fields_of(line: Line) -> Fields
     ensures { line_of result ≡ bytes_of line }
 {
-    let none = Later::Nothing;
-    match line {
-        Line::ScheduleHeader => Fields(First::ScheduleHeader, none, none, none),
-        Line::ResponseHeader => Fields(First::ResponseHeader, none, none, none),
-        Line::Tick(ticks, pick) => Fields(First::Number(ticks), pick_field(pick), none, none),
+    let (first, later) = match line {
+        Line::ScheduleHeader => (Field::Word(Word::ScheduleHeader), [None; 3]),
+        Line::ResponseHeader => (Field::Word(Word::ResponseHeader), [None; 3]),
+        Line::Tick(ticks, pick) => (Field::Number(ticks), [Some(pick_field(pick)), None, None]),
         Line::Release(ticks, index) => {
-            let released = Later::Number(index as u64);
-            Fields(First::Number(ticks), Later::Release, released, none)
+            let word = Field::Word(Word::Release);
+            let index = Field::Number(index as u64);
+            (Field::Number(ticks), [Some(word), Some(index), None])
         }
         Line::Response(partition, rank, ticks) => {
-            let row = First::Number(partition as u64);
-            let place = Later::Number(rank as u64);
-            Fields(row, place, response_field(ticks), none)
+            let partition = Field::Number(u64::from(partition));
+            let rank = Field::Number(rank as u64);
+            (partition, [Some(rank), Some(response_field(ticks)), None])
         }
-        Line::End(count) => Fields(First::End, Later::Number(count), none, none),
+        Line::End(count) => (
+            Field::Word(Word::End),
+            [Some(Field::Number(count)), None, None],
+        ),
         Line::Refused(refusal) => {
-            let n = numbers(refusal);
-            let number = Later::Number(n.number as u64);
-            Fields(
-                First::Refused,
-                number,
-                Later::At,
-                Later::Number(n.second as u64),
+            let n = Numbered::from(refusal);
+            let number = Field::Number(u64::from(n.number));
+            let at = Field::Word(Word::At);
+            let second = Field::Number(n.second as u64);
+            (
+                Field::Word(Word::Refused),
+                [Some(number), Some(at), Some(second)],
             )
         }
-    }
+    };
+    Fields { first, later }
 }
 
 // How many bytes a line has, its end among them.
+#[tactic(auto, using(crate::proofs::Calls::length_is))]
 pub fn line_length(line: Line) -> usize
     ensures { LineLengthIs line result }
 {
@@ -248,13 +209,21 @@ pub fn line_length(line: Line) -> usize
 }
 
 // Writes a line to the start of the buffer; the rest of the buffer stays. Refusal 7, before anything is written.
-pub fn write_line(line: Line, buf: &mut [u8]) -> Written
+pub fn write_line(line: Line, buf: &mut [u8]) -> Result<usize, Refusal>
     ensures { WriteLineIs line buf.old result buf.new }
 {
     let f = fields_of(line);
     let needed = fields_length(f);
     if buf.len() < needed {
-        return Written::Refused(Refusal::ShortBuffer(needed));
+        return Err(Refusal::ShortBuffer(needed));
     }
-    Written::Bytes(put_fields(f, buf))
+    Ok(put_fields(f, buf))
+}
+
+// Writes a line as `write_line` does, and hands on what comes next.
+pub fn put_line<C: Copy>(line: Line, next: Option<C>, buf: &mut [u8]) -> Result<Made<C>, Refusal>
+    ensures { PutLineIs line next buf.old result buf.new }
+{
+    let length = write_line(line, buf)?;
+    Ok(Made { length, next })
 }

@@ -2,131 +2,155 @@
 #![tactic(auto)]
 
 ghost use Rattle.std.specs.Prelude.{◌≡◌};
-ghost use Rattle.basis.specs.Words.{has};
-ghost use Rattle.file_rules.specs.MeterFile.{form as form_of, is_record};
-ghost use Rattle.meter.specs.Forms.{shape_as};
+ghost use Rattle.file_rules.specs.MeterFile.{form};
+ghost use Rattle.meter.specs.Forms.{number_of, KindIs, RecordKindIs};
 ghost use Rattle.meter.specs.Promises.{ReadRecordIs, PayloadIs, WhyRefusedIs};
 
 use little_endian::two;
 use rules::Refusal;
 
-// A record with its kind and the offset of the next one, or why there is none.
+// What a record tells of: a partition, a task, a word or a release. Each has its number in a file.
+#[derive(Clone, Copy, PartialEq, Eq)]
+pub enum Kind {
+    Partition = 1,
+    Task = 2,
+    Word = 3,
+    Release = 4,
+}
+
+// The kinds that a meter file may hold, in their numbers, since the reader takes any number as a kind.
+pub const METER_KINDS: [u16; 4] = [1, 2, 3, 4];
+
+// A number that no kind has.
 #[derive(Clone, Copy)]
-pub enum Read {
-    Record(u16, usize),
-    Refused(Refusal),
-}
+pub struct NoKind;
 
-// What a kind says of its records: their length, which counts kind and payload, and their place in the order.
-#[derive(Clone, Copy)]
-struct Shape {
-    length: u16,
-    place: u16,
-}
+impl TryFrom<u16> for Kind {
+    type Error = NoKind;
 
-// Place 0 is no kind.
-fn form(kind: u16) -> Shape
-    ensures { shape_as result ≡ form_of kind }
-{
-    match kind {
-        1 => Shape {
-            length: 8,
-            place: 1,
-        },
-        2 => Shape {
-            length: 8,
-            place: 2,
-        },
-        3 => Shape {
-            length: 6,
-            place: 3,
-        },
-        4 => Shape {
-            length: 4,
-            place: 3,
-        },
-        _ => Shape {
-            length: 0,
-            place: 0,
-        },
-    }
-}
+    ghost try_from_gives = { KindIs };
 
-// Whether a kind is among those that a file may hold.
-fn may_hold(kinds: &[u16], kind: u16) -> bool
-    ensures { result ≡ has kinds.now kind }
-{
-    for i in 0..kinds.len() {
-        if kinds[i] == kind {
-            return true;
+    #[tactic(auto, unfolding(file_rules::specs::MeterFile::form))]
+    fn try_from(number: u16) -> Result<Kind, NoKind> {
+        match number {
+            1 => Ok(Kind::Partition),
+            2 => Ok(Kind::Task),
+            3 => Ok(Kind::Word),
+            4 => Ok(Kind::Release),
+            _ => Err(NoKind),
         }
     }
-    false
 }
 
-// Whether there is a whole record at an offset, of a kind that the file may hold, with that kind's length, and in order.
-fn is_record<'k, 'f>(kinds: &'k [u16], before: u16, file: &'f [u8], at: usize) -> bool
-    ensures { result ≡ is_record kinds.now before file.now at }
+impl From<Kind> for u16 {
+    ghost from_gives = { λ kind number. number ≡ number_of kind };
+
+    fn from(kind: Kind) -> u16 {
+        kind as u16
+    }
+}
+
+impl Kind {
+    // How long its records are, kind and payload together.
+    #[tactic(auto, unfolding(file_rules::specs::MeterFile::form))]
+    fn length(self) -> u16
+        ensures { result ≡ (form (number_of self)).length }
+    {
+        match self {
+            Kind::Partition | Kind::Task => 8,
+            Kind::Word => 6,
+            Kind::Release => 4,
+        }
+    }
+
+    // Words and releases come mixed, so they have one place.
+    #[tactic(auto, unfolding(file_rules::specs::MeterFile::form))]
+    fn place(self) -> u16
+        ensures { result ≡ (form (number_of self)).place }
+    {
+        match self {
+            Kind::Partition => 1,
+            Kind::Task => 2,
+            Kind::Word | Kind::Release => 3,
+        }
+    }
+}
+
+// The place of the kind with a number, and 0 for no kind: any may come first.
+fn place_of(number: u16) -> u16
+    ensures { result ≡ (form number).place }
+{
+    Kind::try_from(number).map_or(0, Kind::place)
+}
+
+// A record: its kind, and the offset of the next one.
+#[derive(Clone, Copy)]
+pub struct Record {
+    pub kind: Kind,
+    pub next: usize,
+}
+
+// The kind of the record at an offset, if there is a whole one, of a kind that the file may hold, with that kind's length, and in order.
+// What is asked stands one by one, here and below, as 01 asks for a record: a struct of it would be made for each call.
+#[tactic(auto, using(crate::proofs::Records::holds_as, crate::proofs::Records::placed), unfolding(file_rules::specs::MeterFile::is_record))]
+fn record_kind(kinds: &[u16], before: u16, file: &[u8], at: usize) -> Option<Kind>
+    ensures { RecordKindIs kinds.now before file.now at result }
 {
     let end = file.len();
-    if end < 4 {
-        return false;
-    }
     // so that at + 4 can't wrap
-    if end - 4 < at {
-        return false;
+    if end < 4 || end - 4 < at {
+        return None;
     }
-    let kind = two(file, at + 2);
-    if !may_hold(kinds, kind) {
-        return false;
+    let number = two(file, at + 2);
+    if !kinds.contains(&number) {
+        return None;
     }
-    let asked = form(kind);
-    if asked.place == 0 {
-        return false;
+    let kind = Kind::try_from(number).ok()?;
+    let length = kind.length();
+    if two(file, at) != length {
+        return None;
     }
-    let length = two(file, at);
-    if length != asked.length {
-        return false;
+    if end < at + 2 + usize::from(length) {
+        return None;
     }
-    if end < at + 2 + (length as usize) {
-        return false;
+    if kind.place() < place_of(before) {
+        return None;
     }
-    let last = form(before);
-    last.place <= asked.place
+    Some(kind)
 }
 
-// The record at an offset, after one of the kind before (0 for none). Refusal 8.
-pub fn read_record<'k, 'f>(kinds: &'k [u16], before: u16, file: &'f [u8], at: usize) -> Read
+// The record at an offset, after one of the kind before (0 for none). Refusal 8. Kinds are numbers here, since a caller may give any.
+#[tactic(auto, using(crate::proofs::Records::limit_passed, crate::proofs::Records::refused_here, crate::proofs::Records::read_here))]
+pub fn read_record(kinds: &[u16], before: u16, file: &[u8], at: usize) -> Result<Record, Refusal>
     ensures { ReadRecordIs kinds.now before file.now at result }
 {
     if file.len() > 65536 {
-        return Read::Refused(Refusal::BadRecord(65536));
+        return Err(Refusal::BadRecord(65536));
     }
-    if !is_record(kinds, before, file, at) {
-        return Read::Refused(Refusal::BadRecord(at));
-    }
-    let length = two(file, at) as usize;
-    Read::Record(two(file, at + 2), at + 2 + length)
+    let kind = record_kind(kinds, before, file, at).ok_or(Refusal::BadRecord(at))?;
+    let next = at + 2 + usize::from(kind.length());
+    Ok(Record { kind, next })
 }
 
 // Its payload, as that part of the caller's file; an empty part where the record is refused.
-pub fn payload<'k, 'f>(kinds: &'k [u16], before: u16, file: &'f [u8], at: usize) -> &'f [u8]
+#[tactic(auto, using(crate::proofs::Records::told_record, crate::proofs::Records::payload_part))]
+pub fn payload<'f>(kinds: &[u16], before: u16, file: &'f [u8], at: usize) -> &'f [u8]
     ensures { PayloadIs kinds.now before file.now at result.now }
 {
-    let answer = read_record(kinds, before, file, at);
-    let Read::Record(_, next) = answer else {
+    let Ok(record) = read_record(kinds, before, file, at) else {
         return &file[..0];
     };
-    let from = at + 4;
-    &file[from..next]
+    &file[at + 4..record.next]
 }
 
 // Why a record was refused. Of one that was read it is what asking at its next offset would be refused with, at the end of a file.
-pub fn why_refused(answer: Read) -> Refusal
+// Of a record it takes the next offset alone, since a record of any kind may be asked about. Callers leave by `?` or don't ask why:
+// this stays for what 01 says of asking past the end, which its promise and its edits hold.
+pub fn why_refused(answer: Result<usize, Refusal>) -> Refusal
     ensures { WhyRefusedIs answer result }
 {
     match answer {
-        Read::Refused(r) => r,
-        Read::Record(_, next) => Refusal::BadRecord(next),
+        Ok(next) => Refusal::BadRecord(next),
+        Err(r) => r,
     }
 }

@@ -43,23 +43,23 @@ module _ (t : Table) (s : State) where
 
   -- the standing test: refusals 1 and 3
   abbrev pub StandingInNumbers : Tested → Type 0
-  StandingInNumbers r = r ≡ test_numbers (standing_says t s.b s.o)
+  StandingInNumbers r = r ≡ test_numbers (standing_says t s.pairs.b s.pairs.o)
 
   -- the busy length of partition h with inversion w: refusals 1 and 3
   abbrev pub BusyLengthInNumbers : ℕ → ℕ → Lasting → Type 0
-  BusyLengthInNumbers h w r = r ≡ length_numbers (busy_test_says t s.b s.o h w)
+  BusyLengthInNumbers h w r = r ≡ length_numbers (busy_test_says t s.pairs.b s.pairs.o h w)
 
   -- the candidates: refusals 1 and 3
   abbrev pub CandidatesInNumbers : ListNumbers → Type 0
-  CandidatesInNumbers r = r ≡ list_numbers (candidates_say t s.b s.o)
+  CandidatesInNumbers r = r ≡ list_numbers (candidates_say t s.pairs)
 
   -- the weights beside them: refusals 1 and 3
   abbrev pub WeightsInNumbers : WeightNumbers → Type 0
-  WeightsInNumbers r = r ≡ weight_numbers (weights_say t s.b s.o)
+  WeightsInNumbers r = r ≡ weight_numbers (weights_say t s.pairs)
 
   -- one decision, by the first of the words: refusals 1, 3 and 4
   abbrev pub DecideInNumbers : List ℕ → Picked → Type 0
-  DecideInNumbers words r = r ≡ pick_numbers (decide_says t s.b s.o words)
+  DecideInNumbers words r = r ≡ pick_numbers (decide_says t s.pairs words)
 
   -- a run over the words into the buffer, which is `last` after it: refusals 1, 3 and 7
   pub record RunInNumbers (words buffer : List ℕ) (r : After) (last : List ℕ) : Type 0 where

@@ -1,21 +1,23 @@
 -- What each public function of this crate promises of its answer r: what the call says, in numbers.
 use Rattle.std.specs.Prelude.{ℕ, ◌≡◌}
+use Rattle.std.proofs.Math.Option.{some}
+use Rattle.std.specs.declared.option.Option.{Option as Found}
+use Rattle.std.specs.declared.result.Result.{Result}
+use Rattle.rules.specs.Refusals.{refused_as}
+use Rattle.rules.specs.declared.Refusal.{Refusal}
 use Rattle.rules.specs.declared.Table.{Table}
+use Rattle.verdicts.specs.Verdicts.{verdict_as}
 use Rattle.standing.specs.Answers.{test_as, length_as}
-use Rattle.standing.specs.declared.Test.{Test}
-use Rattle.standing.specs.declared.Length.{Length}
 use Rattle.candidates.specs.Promises.{listed_as}
 use Rattle.candidates.specs.declared.Listed.{Listed}
 use Rattle.draw.specs.Promises.{weighed_as, decision_as}
 use Rattle.draw.specs.declared.Weighed.{Weighed}
-use Rattle.draw.specs.declared.Decision.{Decision}
 use Rattle.scheduler.specs.Promises.{changed_as, tick_says, release_says}
 use Rattle.scheduler.specs.declared.State.{State}
-use Rattle.scheduler.specs.declared.Changed.{Changed}
 use Rattle.runs.specs.Promises.{step_says}
 use Rattle.responses.specs.Answers.{response_as}
-use Rattle.responses.specs.declared.Response.{Response}
-use Rattle.numbers.specs.Answers.{test_numbers, length_numbers, response_numbers, pick_numbers, change_numbers, list_numbers, weight_numbers, turn_numbers}
+use Rattle.numbers.specs.Answers.{refusal_numbers, test_numbers, length_numbers, response_numbers, pick_numbers, change_numbers, list_numbers, weight_numbers, turn_numbers}
+use Rattle.numbers.specs.declared.RefusalNumbers.{RefusalNumbers}
 use Rattle.numbers.specs.declared.Picked.{Picked}
 use Rattle.numbers.specs.declared.Tested.{Tested}
 use Rattle.numbers.specs.declared.Lasting.{Lasting}
@@ -25,26 +27,33 @@ use Rattle.numbers.specs.declared.ListNumbers.{ListNumbers}
 use Rattle.numbers.specs.declared.WeightNumbers.{WeightNumbers}
 use Rattle.numbers.specs.declared.Turned.{Turned}
 
+-- ---- a refusal in numbers, and that of a verdict
+abbrev pub RefusalNumbersAre : Refusal → RefusalNumbers → Type 0
+RefusalNumbersAre why r = r ≡ refusal_numbers (some (refused_as why))
+
+abbrev pub VerdictNumbersAre : Result Unit Refusal → RefusalNumbers → Type 0
+VerdictNumbersAre verdict r = r ≡ refusal_numbers (verdict_as verdict)
+
 -- ---- an answer in numbers
-abbrev pub TestNumbersAre : Test → Tested → Type 0
+abbrev pub TestNumbersAre : Result (Found ℕ) Refusal → Tested → Type 0
 TestNumbersAre test r = r ≡ test_numbers (test_as test)
 
-abbrev pub LengthNumbersAre : Length → Lasting → Type 0
+abbrev pub LengthNumbersAre : Result (Found ℕ) Refusal → Lasting → Type 0
 LengthNumbersAre length r = r ≡ length_numbers (length_as length)
 
-abbrev pub ResponseNumbersAre : Response → Responded → Type 0
+abbrev pub ResponseNumbersAre : Result ℕ Refusal → Responded → Type 0
 ResponseNumbersAre response r = r ≡ response_numbers (response_as response)
 
-abbrev pub PickNumbersAre : Decision → Picked → Type 0
+abbrev pub PickNumbersAre : Result ℕ Refusal → Picked → Type 0
 PickNumbersAre decision r = r ≡ pick_numbers (decision_as decision)
 
-abbrev pub ChangeNumbersAre : Changed → After → Type 0
-ChangeNumbersAre changed r = r ≡ change_numbers (changed_as changed)
+abbrev pub ChangeNumbersAre : State → Result State Refusal → After → Type 0
+ChangeNumbersAre given changed r = r ≡ change_numbers (changed_as given changed)
 
-abbrev pub ListNumbersAre : Listed → ListNumbers → Type 0
+abbrev pub ListNumbersAre : Result Listed Refusal → ListNumbers → Type 0
 ListNumbersAre listed r = r ≡ list_numbers (listed_as listed)
 
-abbrev pub WeightNumbersAre : Weighed → WeightNumbers → Type 0
+abbrev pub WeightNumbersAre : Result Weighed Refusal → WeightNumbers → Type 0
 WeightNumbersAre weighed r = r ≡ weight_numbers (weighed_as weighed)
 
 -- ---- a call whose answer is in numbers

@@ -1,22 +1,16 @@
 // The answers of the calls as plain numbers, for C. Each begins with a refusal's two numbers. Where a call is refused, every value after them is 0, and a state is the one that was given.
 #![tactic(auto)]
 
-ghost use Rattle.std.specs.Prelude.{◌≡◌};
-ghost use Rattle.std.proofs.Math.Option.{some, none};
-ghost use Rattle.rules.specs.Refusals.{refused_as};
-ghost use Rattle.verdicts.specs.Verdicts.{verdict_as};
-ghost use Rattle.numbers.specs.Answers.{refusal_numbers};
-ghost use Rattle.numbers.specs.Promises.{TestNumbersAre, LengthNumbersAre, ResponseNumbersAre, PickNumbersAre, ChangeNumbersAre, ListNumbersAre, WeightNumbersAre, TurnIs, TurnForIs, ReleasedIs};
+ghost use Rattle.numbers.specs.Promises.{RefusalNumbersAre, VerdictNumbersAre, TestNumbersAre, LengthNumbersAre, ResponseNumbersAre, PickNumbersAre, ChangeNumbersAre, ListNumbersAre, WeightNumbersAre, TurnIs, TurnForIs, ReleasedIs};
 
 use candidates::Listed;
-use draw::{Decision, Weighed};
-use responses::Response;
+use draw::Weighed;
 use rules::{Refusal, Table};
 use runs::step;
-use scheduler::{Changed, State};
-use standing::{Length, Test};
-use verdicts::{Verdict, numbers};
+use scheduler::State;
+use verdicts::Numbered;
 
+// The structs below are the C interface, which has neither Option nor Result: their fields and layout may not change.
 // A refusal's number and its second number; 0, 0 where the call was not refused.
 #[repr(C)]
 #[derive(Clone, Copy)]
@@ -94,164 +88,196 @@ pub struct Turned {
 }
 
 // Not refused.
-fn unrefused() -> RefusalNumbers
-    ensures { result ≡ refusal_numbers none }
-{
-    RefusalNumbers {
-        number: 0,
-        second: 0,
-    }
-}
+const UNREFUSED: RefusalNumbers = RefusalNumbers {
+    number: 0,
+    second: 0,
+};
 
 // A refusal in numbers.
-fn refused(why: Refusal) -> RefusalNumbers
-    ensures { result ≡ refusal_numbers (some (refused_as why)) }
-{
-    let n = numbers(why);
-    RefusalNumbers {
-        number: n.number,
-        second: n.second,
+impl From<Refusal> for RefusalNumbers {
+    ghost from_gives = { RefusalNumbersAre };
+
+    fn from(why: Refusal) -> RefusalNumbers {
+        let Numbered { number, second } = Numbered::from(why);
+        RefusalNumbers { number, second }
     }
 }
 
-// A verdict in numbers.
-fn verdict_numbers(verdict: Verdict) -> RefusalNumbers
-    ensures { result ≡ refusal_numbers (verdict_as verdict) }
-{
-    match verdict {
-        Verdict::Good => unrefused(),
-        Verdict::Refused(why) => refused(why),
+// A verdict in numbers: the refusal's, if it is one.
+impl From<Result<(), Refusal>> for RefusalNumbers {
+    ghost from_gives = { VerdictNumbersAre };
+
+    #[tactic(auto, unfolding(verdicts::specs::Verdicts::verdict_as))]
+    fn from(verdict: Result<(), Refusal>) -> RefusalNumbers {
+        match verdict {
+            Ok(()) => UNREFUSED,
+            Err(why) => RefusalNumbers::from(why),
+        }
     }
 }
 
-// A test of all partitions in numbers.
-pub fn test_numbers(test: Test) -> Tested
-    ensures { TestNumbersAre test result }
-{
-    match test {
-        Test::Passes => Tested {
-            refusal: unrefused(),
-            passes: 1,
-            failing: 0,
-        },
-        Test::Fails(h) => Tested {
-            refusal: unrefused(),
-            passes: 0,
-            failing: h,
-        },
-        Test::Refused(why) => Tested {
-            refusal: refused(why),
-            passes: 0,
-            failing: 0,
-        },
+// A test of all partitions in numbers: the first that fails, if one does.
+impl From<Result<Option<usize>, Refusal>> for Tested {
+    ghost from_gives = { TestNumbersAre };
+
+    fn from(test: Result<Option<usize>, Refusal>) -> Tested {
+        match test {
+            Ok(None) => Tested {
+                refusal: UNREFUSED,
+                passes: 1,
+                failing: 0,
+            },
+            Ok(Some(h)) => Tested {
+                refusal: UNREFUSED,
+                passes: 0,
+                failing: h,
+            },
+            Err(why) => Tested {
+                refusal: RefusalNumbers::from(why),
+                passes: 0,
+                failing: 0,
+            },
+        }
     }
 }
 
-// A length in numbers.
-pub fn length_numbers(length: Length) -> Lasting
-    ensures { LengthNumbersAre length result }
-{
-    match length {
-        Length::Within(w) => Lasting {
-            refusal: unrefused(),
-            within: 1,
-            ticks: w,
-        },
-        Length::Over => Lasting {
-            refusal: unrefused(),
-            within: 0,
-            ticks: 0,
-        },
-        Length::Refused(why) => Lasting {
-            refusal: refused(why),
-            within: 0,
-            ticks: 0,
-        },
+// A length in numbers: its ticks, where they are within the deadline.
+impl From<Result<Option<u64>, Refusal>> for Lasting {
+    ghost from_gives = { LengthNumbersAre };
+
+    fn from(length: Result<Option<u64>, Refusal>) -> Lasting {
+        match length {
+            Ok(Some(ticks)) => Lasting {
+                refusal: UNREFUSED,
+                within: 1,
+                ticks,
+            },
+            Ok(None) => Lasting {
+                refusal: UNREFUSED,
+                within: 0,
+                ticks: 0,
+            },
+            Err(why) => Lasting {
+                refusal: RefusalNumbers::from(why),
+                within: 0,
+                ticks: 0,
+            },
+        }
     }
 }
 
 // A response in numbers.
-pub fn response_numbers(response: Response) -> Responded
-    ensures { ResponseNumbersAre response result }
-{
-    match response {
-        Response::Ticks(ticks) => Responded {
-            refusal: unrefused(),
-            ticks,
-        },
-        Response::Refused(why) => Responded {
-            refusal: refused(why),
-            ticks: 0,
-        },
+impl From<Result<u64, Refusal>> for Responded {
+    ghost from_gives = { ResponseNumbersAre };
+
+    fn from(response: Result<u64, Refusal>) -> Responded {
+        match response {
+            Ok(longest) => Responded {
+                refusal: UNREFUSED,
+                ticks: longest,
+            },
+            Err(why) => Responded {
+                refusal: RefusalNumbers::from(why),
+                ticks: 0,
+            },
+        }
     }
 }
 
 // A pick in numbers.
-pub fn pick_numbers(decision: Decision) -> Picked
-    ensures { PickNumbersAre decision result }
-{
-    match decision {
-        Decision::Pick(pick) => Picked {
-            refusal: unrefused(),
-            pick: pick as u32,
-        },
-        Decision::Refused(why) => Picked {
-            refusal: refused(why),
-            pick: 0,
-        },
-    }
-}
+impl From<Result<u8, Refusal>> for Picked {
+    ghost from_gives = { PickNumbersAre };
 
-// A state after a call in numbers.
-pub fn change_numbers(changed: Changed) -> After
-    ensures { ChangeNumbersAre changed result }
-{
-    let state = changed.state;
-    let verdict = changed.verdict;
-    After {
-        refusal: verdict_numbers(verdict),
-        state,
+    fn from(decision: Result<u8, Refusal>) -> Picked {
+        match decision {
+            Ok(pick) => Picked {
+                refusal: UNREFUSED,
+                pick: u32::from(pick),
+            },
+            Err(why) => Picked {
+                refusal: RefusalNumbers::from(why),
+                pick: 0,
+            },
+        }
     }
 }
 
 // A candidate list in numbers.
-pub fn list_numbers(listed: Listed) -> ListNumbers
-    ensures { ListNumbersAre listed result }
-{
-    let list = listed.list;
-    let verdict = listed.verdict;
-    ListNumbers {
-        refusal: verdict_numbers(verdict),
-        length: listed.length,
-        list,
+impl From<Result<Listed, Refusal>> for ListNumbers {
+    ghost from_gives = { ListNumbersAre };
+
+    #[tactic(auto, unfolding(basis::specs::Words::padded))]
+    fn from(listed: Result<Listed, Refusal>) -> ListNumbers {
+        match listed {
+            Ok(listed) => {
+                let list = listed.list;
+                ListNumbers {
+                    refusal: UNREFUSED,
+                    length: listed.length,
+                    list,
+                }
+            }
+            Err(why) => ListNumbers {
+                refusal: RefusalNumbers::from(why),
+                length: 0,
+                list: [0u8; 17],
+            },
+        }
     }
 }
 
 // A list and its weights in numbers.
-pub fn weight_numbers(weighed: Weighed) -> WeightNumbers
-    ensures { WeightNumbersAre weighed result }
-{
-    let list = weighed.list;
-    let weights = weighed.weights;
-    let verdict = weighed.verdict;
-    WeightNumbers {
-        refusal: verdict_numbers(verdict),
-        length: weighed.length,
-        list,
-        weights,
+impl From<Result<Weighed, Refusal>> for WeightNumbers {
+    ghost from_gives = { WeightNumbersAre };
+
+    #[tactic(auto, unfolding(basis::specs::Words::padded))]
+    fn from(weighed: Result<Weighed, Refusal>) -> WeightNumbers {
+        match weighed {
+            Ok(weighed) => {
+                let list = weighed.list;
+                let weights = weighed.weights;
+                WeightNumbers {
+                    refusal: UNREFUSED,
+                    length: weighed.length,
+                    list,
+                    weights,
+                }
+            }
+            Err(why) => WeightNumbers {
+                refusal: RefusalNumbers::from(why),
+                length: 0,
+                list: [0; 17],
+                weights: [0; 17],
+            },
+        }
     }
 }
 
-// One decision and its tick, from a word. Refusals 1 and 3.
+// A state after a call in numbers: the one that was made of it or, where the call was refused, the one that was given.
+#[tactic(auto, unfolding(verdicts::specs::Verdicts::verdict_as))]
+pub fn change_numbers(given: State, changed: Result<State, Refusal>) -> After
+    ensures { ChangeNumbersAre given changed result }
+{
+    After {
+        refusal: RefusalNumbers::from(changed.map(|_| ())),
+        state: changed.unwrap_or(given),
+    }
+}
+
+// One decision and its tick, from a word, with the state by value. Refusals 1 and 3.
 pub fn turn(state: State, t: Table, word: u32) -> Turned
     ensures { TurnIs t state word result }
 {
-    let stepped = step(state, t, word);
-    let after = stepped.state;
-    let decision = stepped.decision;
-    Turned {
-        picked: pick_numbers(decision),
-        state: after,
+    // Not `map` and `map_or`, which copy the state once more.
+    match step(state, t, word) {
+        Ok(stepped) => Turned {
+            picked: Picked::from(Ok(stepped.pick)),
+            state: stepped.state,
+        },
+        Err(why) => Turned {
+            picked: Picked::from(Err(why)),
+            state,
+        },
     }
 }
 
@@ -259,12 +285,12 @@ pub fn turn(state: State, t: Table, word: u32) -> Turned
 pub fn turn_for(state: State, t: Table, pick: usize) -> After
     ensures { TurnForIs t state pick result }
 {
-    change_numbers(state.tick(t, pick))
+    change_numbers(state, state.tick(t, pick))
 }
 
 // A release. Refusals 1, 3 and 6.
 pub fn released(state: State, t: Table, index: usize) -> After
     ensures { ReleasedIs t state index result }
 {
-    change_numbers(state.release(t, index))
+    change_numbers(state, state.release(t, index))
 }

@@ -5,17 +5,19 @@ use mathlib.Core.Bool.{Bool}
 use mathlib.Core.List.{List, ◌++◌, append_assoc}
 use mathlib.Core.Option.{none}
 use native.Mathlib.Nat.{le_trans}
+use native.Mathlib.Omega.{arith}
 use borrow.Author.Tests.{le-leb}
 use lib.Dec.{leb}
-use lib.ListN.{length, take, drop, length-append}
+use lib.ListN.{length, take, drop, length-append, length-drop}
 use lib.Seq.{take-append_seam, take_at, length-take-le}
+use Rattle.std.proofs.lemmas.List.{take_rest}
+use Rattle.std.specs.declared.result.Result.TheVariants.{Ok}
 use Rattle.basis.specs.Words.{unless, onto}
 use Rattle.rules.specs.Refusals.{refused_as}
 use Rattle.file_rules.specs.Printers.{refused_line}
 use Rattle.rules.specs.declared.Refusal.{Refusal}
 use Rattle.lines.specs.Lines.{bytes_of, longest_line}
 use Rattle.lines.specs.declared.Line.TheVariants as line
-use Rattle.lines.specs.declared.Written.TheVariants as written
 use Rattle.lines.proofs.Calls.{always_written}
 use Rattle.outputs.specs.RefusalCall.{RefusedWith}
 
@@ -42,6 +44,10 @@ part_from at buffer = take (length buffer - at) (drop at buffer)
 abbrev pub put_from : ℕ → List ℕ → List ℕ → List ℕ
 put_from at buffer part = take at buffer ++ (part ++ drop (length buffer - at) (drop at buffer))
 
+-- there is room for any line from there, if there is from a place after it
+pub room_from : (at used : ℕ) (buffer : List ℕ) → at ≤ used → used + longest_line ≤ length buffer → longest_line ≤ length (part_from at buffer)
+room_from at used buffer near room = let rest = ap length (take_rest buffer at) ∙ length-drop at buffer in omega (arith, rest, near, room)
+
 -- a line that is put where what the buffer holds ends comes after it
 pub line_added : (at used n : ℕ) (bytes buffer last : List ℕ) → at ≡ used → used ≤ length buffer → n ≡ length bytes → last ≡ onto bytes (part_from at buffer)
     → take (used + n) (put_from at buffer last) ≡ take used buffer ++ bytes
@@ -52,9 +58,7 @@ line_added at used n bytes buffer last there held count f =
 pub refused_written : (q : Refusal) (output : List ℕ) → RefusedWith q output → output ≡ refused_line (refused_as q)
 unfolding bytes_of
 refused_written q output w =
-    let said = always_written (line.Refused q) w.buffer (written.Bytes w.count) w.last w.room w.call in
-    let count : w.count ≡ length (refused_line (refused_as q)) = same said.0 in
+    let said = always_written (line.Refused q) w.buffer (Ok w.count) w.last w.room w.call in
+    let ok = said.0 in
+    let count : w.count ≡ length (refused_line (refused_as q)) = cc in
     w.bytes ∙ taken w.count (refused_line (refused_as q)) w.buffer w.last count said.1
-  where
-    same : {n m : ℕ} → written.Bytes n ≡ written.Bytes m → n ≡ m
-    same e = cc

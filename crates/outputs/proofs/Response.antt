@@ -2,45 +2,58 @@
 use Prim.Native.Nat.{ℕ, zero, suc, ◌+◌, ◌-◌, ◌*◌, ◌≤◌, ◌<◌}
 use mathlib.Core.Path.{◌≡◌, refl, sym, ◌∙◌, ap, subst}
 use mathlib.Core.Bool.{Bool, true, false}
-use mathlib.Core.List.{List, [], ◌∷◌, ◌++◌, append_assoc}
+use mathlib.Core.List.{List, [], ◌∷◌, ◌++◌, append_assoc, append-nil}
 use mathlib.Core.Option.{Option, none}
 use native.Mathlib.Nat.{zero-add, add-zero}
 use native.Mathlib.Numerals.{add-one}
 use native.Mathlib.Omega.{arith}
 use borrow.Author.Tests.{eqb-true, eqb-false, lt-ltb}
 use lib.Dec.{eqb}
-use lib.ListN.{length, take, length-append}
+use lib.ListN.{length, length-append}
+use Rattle.std.specs.Result.{IsOk, is_ok}
+use Rattle.std.specs.declared.option.Option.{Option as Found}
+use Rattle.std.specs.declared.option.Option.TheVariants.{Some, None}
+use Rattle.std.specs.declared.result.Result.{Result}
+use Rattle.std.specs.declared.result.Result.TheVariants.{Ok, Err}
 use Rattle.basis.specs.Words.{◌!◌, onto}
 use Rattle.rules.specs.TaskResponse.{rank_of, response_of_task}
 use Rattle.rules.specs.Refusals.{Refused, ground, refusal}
 use Rattle.file_rules.specs.MeterFile.{table_of, tasks_of}
 use Rattle.file_rules.specs.Printers.{response_header, end_line, row_of, rows_of, response_output}
+use Rattle.rules.specs.declared.Refusal.{Refusal}
 use Rattle.rules.specs.declared.Table.{Table}
 use Rattle.rules.specs.declared.Tasks.{Tasks}
 use Rattle.laws.proofs.Numbers.{tasks_good}
 use Rattle.verdicts.specs.Outcome.{gives}
-use Rattle.verdicts.specs.declared.Verdict.TheVariants as verdict
 use Rattle.verdicts.proofs.Outcomes.{given_as, never_both}
 use Rattle.whole_file.specs.Promises.{Judged, JudgeFileIs}
 use Rattle.whole_file.specs.declared.MeterFile.{MeterFile}
 use Rattle.lines.specs.Lines.{bytes_of, longest_line}
 use Rattle.lines.specs.declared.Line.TheVariants as line
+use Rattle.lines.specs.declared.Made.{Made}
 use Rattle.lines.proofs.Longest.{no_longer}
 use Rattle.response_lines.specs.Coming.{Coming, plain, row, coming}
 use Rattle.response_lines.specs.Promises.{OneLine, Printing, made_as, printed_as, printing, OneLineIs}
+use Rattle.lines.specs.Promises as line_promises
 use Rattle.response_lines.specs.declared.Cursor.{Cursor}
 use Rattle.response_lines.specs.declared.Cursor.TheVariants as cursor
-use Rattle.response_lines.specs.declared.Next.TheVariants as next
 use Rattle.outputs.specs.ResponseMoments.{rows_left, rows_from, rows_to_write, RowAt}
+use Rattle.outputs.specs.After.{lines_after, HoldsAfter, left_after}
 use Rattle.outputs.specs.ResponseCalls.{Call, Lines, goes_on, ends, stops, ResponsePrinted}
 use Rattle.outputs.specs.ResponseCalls as calls
-use Rattle.outputs.proofs.LineInBuffer.{has_room, taken, refused_written}
-use Rattle.outputs.proofs.JudgedFile.{output_refused, output_good, holds, in_range, tasks_in_range}
+use Rattle.outputs.proofs.LineInBuffer.{has_room, refused_written}
+use Rattle.outputs.proofs.LineMade.{LineMade, line_last, line_then}
+use Rattle.outputs.proofs.JudgedFile.{refused_outputs, output_good, holds, in_range, tasks_in_range}
 
 -- neither 1 nor 9 nor 7
 three_none : (x y z : Option ℕ) → x ≡ none → y ≡ none → z ≡ none → refusal (ground 1 x ∷ ground 9 y ∷ ground 7 z ∷ []) ≡ none
 unfolding refusal
 three_none x y z a b c = rw (a, b, c)
+
+-- what a call made that gives a line
+is_made : {n : ℕ} {next : Found Cursor} (r : Result (Made Cursor) Refusal) → made_as r ≡ gives (record { length = n; next = next }) → r ≡ Ok (record { length = n; next = next })
+is_made (Ok made) e = ap (λ (x : OneLine Cursor). Ok (record { length = x.length; next = x.next })) (given_as e)
+is_made (Err q) e = never_both (sym e)
 
 module _ (t : Table) (k : Tasks) where
   -- ---- the rows from below and from above
@@ -73,81 +86,65 @@ module _ (t : Table) (k : Tasks) where
 
   -- ---- one call
   module _ (c : Cursor) (call : Call t k c) where
-    -- what a call does: a line and more, or the last line
-    pub data RowWent : Type 0 where
-      on : (bytes : List ℕ) (then : Cursor) → length bytes ≤ longest_line → rows_left k then < rows_left k c → made_as call.answer ≡ gives (record { length = length bytes; next = next.Line then }) → call.last ≡ onto bytes call.buffer
-          → rows_to_write t k c ≡ bytes ++ rows_to_write t k then → RowAt t k then → RowWent
-      over : (bytes : List ℕ) → length bytes ≤ longest_line → made_as call.answer ≡ gives (record { length = length bytes; next = next.Nothing }) → call.last ≡ onto bytes call.buffer
-          → rows_to_write t k c ≡ bytes → RowWent
+    -- what a call does
+    abbrev pub RowMade : Made Cursor → Type 0
+    RowMade = LineMade (rows_to_write t k) (RowAt t k) (rows_left k) (rows_to_write t k c) (rows_left k c) call.buffer call.last
 
     -- one line, where what comes is known and nothing is against it
     one : (d : Coming) → coming t k c ≡ d → d.fault ≡ none → length d.line ≤ longest_line → RowAt t k c
-        → printed_as call.answer call.last ≡ record { says = gives (record { length = length d.line; next = d.next }); buffer = onto d.line call.buffer }
-    unfolding printing
-    one d same fault short now =
-        subst (λ (x : Coming). OneLineIs t k x call.buffer call.answer call.last) same call.is
-        ∙ ap (λ (o : Option Refused). printing o d call.buffer) (three_none _ _ _ now.table fault (has_room d.line call.buffer short call.room))
-
-  -- the header
-  went_header : (call : Call t k cursor.Header) → RowAt t k cursor.Header → RowWent cursor.Header call
-  unfolding coming rows_to_write rows_left
-  went_header call now =
-      on response_header (cursor.Task 0) (omega arith) (omega arith) (ap (λ (x : Printing). x.says) made) (ap (λ (x : Printing). x.buffer) made)
-      (ap (λ (n : ℕ). response_header ++ rows_from t k 0 n) {x = k.count} {y = k.count - 0} (omega arith))
-      (record { table = now.table; tasks = now.tasks; inside = omega arith })
-    where
-      made : printed_as call.answer call.last ≡ record { says = gives (record { length = length response_header; next = next.Line (cursor.Task 0) }); buffer = onto response_header call.buffer }
-      made = one cursor.Header call (plain t k response_header (next.Line (cursor.Task 0))) refl now.tasks (omega arith) now
+        → rows_to_write t k c ≡ d.line ++ lines_after (rows_to_write t k) d.next → HoldsAfter (RowAt t k) d.next → left_after (rows_left k) d.next < rows_left k c
+        → (made : Made Cursor) × (call.answer ≡ Ok made) × RowMade made
+    unfolding line_promises.printing
+    one d same fault short now all at nearer = (
+      record { length = length d.line; next = d.next },
+      is_made call.answer (ap (λ (x : Printing Cursor). x.says) said),
+      record { bytes = d.line; short = short; count = refl; there = ap (λ (x : Printing Cursor). x.buffer) said; all = all; at = at; nearer = nearer },
+    )
+      where
+        said : printed_as call.answer call.last ≡ record { says = gives (record { length = length d.line; next = d.next }); buffer = onto d.line call.buffer }
+        said =
+            subst (λ (x : Coming). OneLineIs t k x call.buffer call.answer call.last) same call.is
+            ∙ ap (λ (o : Option Refused). printing o d call.buffer) (three_none _ _ _ now.table fault (has_room d.line call.buffer short call.room))
 
   -- a row, or the end
-  went_task : (i : ℕ) (call : Call t k (cursor.Task i)) → RowAt t k (cursor.Task i) → RowWent (cursor.Task i) call
-  unfolding coming rows_to_write rows_left rows_from
-  went_task i call now = go (eqb i k.count) refl
+  task_made : (i : ℕ) (call : Call t k (cursor.Task i)) → RowAt t k (cursor.Task i) → (made : Made Cursor) × (call.answer ≡ Ok made) × RowMade (cursor.Task i) call made
+  unfolding coming rows_to_write rows_left rows_from lines_after HoldsAfter left_after
+  task_made i call now = go (eqb i k.count) refl
     where
-      go : (a : Bool) → eqb i k.count ≡ a → RowWent (cursor.Task i) call
+      go : (a : Bool) → eqb i k.count ≡ a → (made : Made Cursor) × (call.answer ≡ Ok made) × RowMade (cursor.Task i) call made
       go true e =
-          let made = one (cursor.Task i) call (plain t k (end_line k.count) next.Nothing) (rw e) now.tasks (end_short k.count) now in
           let last : i ≡ k.count = eqb-true i k.count e in
-          over (end_line k.count) (end_short k.count) (ap (λ (x : Printing). x.says) made) (ap (λ (x : Printing). x.buffer) made)
-          (ap (rows_from t k i) {x = k.count - i} {y = 0} (omega (arith, last)))
+          one (cursor.Task i) call (plain t k (end_line k.count) None) (rw e) now.tasks (end_short k.count) now
+          (ap (rows_from t k i) {x = k.count - i} {y = 0} (omega (arith, last)) ∙ sym (append-nil (end_line k.count))) tt (omega (arith, last))
       go false e =
           let least : i ≤ k.count = now.inside in
           let other : i ≡ k.count → ⊥ = eqb-false i k.count e in
           let below : i < k.count = omega (arith, least, other) in
-          let made = one (cursor.Task i) call (row t k i) (rw e) (rw (now.tasks, lt-ltb i k.count below)) (row-short i) now in
-          on (row_of t k i) (cursor.Task (i + 1)) (row-short i) (omega (arith, below)) (ap (λ (x : Printing). x.says) made) (ap (λ (x : Printing). x.buffer) made)
+          one (cursor.Task i) call (row t k i) (rw e) (rw (now.tasks, lt-ltb i k.count below)) (row-short i) now
           (ap (rows_from t k i) {x = k.count - i} {y = suc (k.count - (i + 1))} (omega (arith, below)))
-          (record { table = now.table; tasks = now.tasks; inside = omega (arith, below) })
+          (record { table = now.table; tasks = now.tasks; inside = omega (arith, below) }) (omega (arith, below))
 
-  pub row_went : (c : Cursor) (call : Call t k c) → RowAt t k c → RowWent c call
-  row_went cursor.Header call now = went_header call now
-  row_went (cursor.Task i) call now = went_task i call now
+  went : (c : Cursor) (call : Call t k c) → RowAt t k c → (made : Made Cursor) × (call.answer ≡ Ok made) × RowMade c call made
+  unfolding coming rows_to_write rows_left lines_after HoldsAfter left_after
+  went cursor.Header call now =
+      one cursor.Header call (plain t k response_header (Some (cursor.Task 0))) refl now.tasks (omega arith) now
+      (ap (λ (n : ℕ). response_header ++ rows_from t k 0 n) {x = k.count} {y = k.count - 0} (omega arith))
+      (record { table = now.table; tasks = now.tasks; inside = omega arith }) (omega arith)
+  went (cursor.Task i) call now = task_made i call now
+
+  -- no call is refused, and what its answer makes
+  module _ (c : Cursor) (call : Call t k c) (now : RowAt t k c) where
+    pub row_given : IsOk call.answer
+    row_given = ap is_ok (went c call now).1
+
+    pub row_made : (made : Made Cursor) → call.answer ≡ Ok made → RowMade c call made
+    row_made made e = let same : (went c call now).0 ≡ made = let answer = (went c call now).1 in cc in subst (RowMade c call) same (went c call now).2
 
   -- ---- the calls from a cursor on write what is still to be written there
   joined : {c : Cursor} {output : List ℕ} → Lines t k c output → RowAt t k c → output ≡ rows_to_write t k c
-  joined (goes_on {c} {rest} call n then made-is later) now = finish (row_went c call now) (λ (a : RowAt t k then). joined later a)
-    where
-      finish : RowWent c call → (RowAt t k then → rest ≡ rows_to_write t k then) → take n call.last ++ rest ≡ rows_to_write t k c
-      finish (on bytes further m l e f g h) ih =
-          (λ i. taken n bytes call.buffer call.last (ap (λ (x : OneLine). x.length) same) f i ++ (ih (subst (RowAt t k) (sym then_is) h) ∙ ap (rows_to_write t k) then_is) i)
-          ∙ sym g
-        where
-          same : ◌≡◌ {A = OneLine} (record { length = n; next = next.Line then }) (record { length = length bytes; next = next.Line further })
-          same = given_as (sym (ap made_as made-is) ∙ e)
-
-          then_is : then ≡ further
-          then_is = let lines : next.Line then ≡ next.Line further = ap (λ (x : OneLine). x.next) same in cc
-      finish (over bytes m e f g) ih = let differ : next.Line then ≡ next.Nothing = ap (λ (x : OneLine). x.next) (given_as (sym (ap made_as made-is) ∙ e)) in cc
-  joined (ends {c} call n made-is) now = finish (row_went c call now)
-    where
-      finish : RowWent c call → take n call.last ≡ rows_to_write t k c
-      finish (on bytes further m l e f g h) = let differ : next.Nothing ≡ next.Line further = ap (λ (x : OneLine). x.next) (given_as (sym (ap made_as made-is) ∙ e)) in cc
-      finish (over bytes m e f g) = taken n bytes call.buffer call.last (ap (λ (x : OneLine). x.length) (given_as (sym (ap made_as made-is) ∙ e))) f ∙ sym g
-  joined (stops {c} {output} call q made-is written) now = finish (row_went c call now)
-    where
-      finish : RowWent c call → output ≡ rows_to_write t k c
-      finish (on bytes further m l e f g h) = never_both (sym e ∙ ap made_as made-is)
-      finish (over bytes m e f g) = never_both (sym e ∙ ap made_as made-is)
+  joined (goes_on {c} {rest} call made then e goes later) now = line_then _ _ _ _ _ call.buffer call.last made (row_made c call now made e) then goes rest (λ a. joined later a)
+  joined (ends {c} call made e goes) now = line_last _ _ _ _ _ call.buffer call.last made (row_made c call now made e) goes
+  joined (stops {c} {output} call q e written) now = let given = (went c call now).1 in cc
 
   -- ---- how much there can be to write
   rows_short : (n i : ℕ) → length (rows_from t k i n) ≤ 64 * (n + 1)
@@ -172,16 +169,16 @@ module _ (t : Table) (k : Tasks) where
       omega (arith, few, short)
 
 -- ---- the theorem
-module _ (file : List ℕ) (m : MeterFile) (judged : JudgeFileIs file m) (good : m.verdict ≡ verdict.Good) where
+module _ (file : List ℕ) (m : MeterFile) (judged : JudgeFileIs file (Ok m)) where
   -- what holds at the header
   pub first_rows : RowAt m.table m.tasks cursor.Header
   first_rows =
-      subst (λ (x : Judged). RowAt x.table x.tasks cursor.Header) (sym (holds file m judged good))
-      (record { table = in_range file m judged good; tasks = tasks_in_range file m judged good; inside = omega arith })
+      subst (λ (x : Judged). RowAt x.table x.tasks cursor.Header) (sym (holds file m judged))
+      (record { table = in_range file m judged; tasks = tasks_in_range file m judged; inside = omega arith })
 
   -- all that is to be written
   pub all_rows : rows_to_write m.table m.tasks cursor.Header ≡ response_header ++ rows_of (table_of file) (tasks_of file) (tasks_of file).count ++ end_line (tasks_of file).count
-  all_rows = ap (λ (x : Judged). rows_to_write x.table x.tasks cursor.Header) (holds file m judged good) ∙ all-from_header (table_of file) (tasks_of file)
+  all_rows = ap (λ (x : Judged). rows_to_write x.table x.tasks cursor.Header) (holds file m judged) ∙ all-from_header (table_of file) (tasks_of file)
 
   -- is what the calls write
   pub rows_written : {output : List ℕ} → Lines m.table m.tasks cursor.Header output → output ≡ response_header ++ rows_of (table_of file) (tasks_of file) (tasks_of file).count ++ end_line (tasks_of file).count
@@ -189,5 +186,5 @@ module _ (file : List ℕ) (m : MeterFile) (judged : JudgeFileIs file m) (good :
 
 pub response_printed : (file : List ℕ) {output : List ℕ} → ResponsePrinted file output → output ≡ response_output file
 unfolding response_output
-response_printed file (calls.refused {output} m judged q e written) = refused_written q output written ∙ sym (output_refused file m judged q e _)
-response_printed file (calls.printed m judged good lines) = rows_written file m judged good lines ∙ sym (output_good file m judged good _)
+response_printed file (calls.refused {output} q judged written) = refused_written q output written ∙ (refused_outputs file q judged).1
+response_printed file (calls.printed m judged lines) = rows_written file m judged lines ∙ sym (output_good file m judged _)

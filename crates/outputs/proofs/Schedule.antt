@@ -2,21 +2,28 @@
 use Prim.Native.Nat.{ℕ, zero, suc, ◌+◌, ◌*◌, ◌≤◌, ◌<◌}
 use mathlib.Core.Path.{◌≡◌, refl, sym, ◌∙◌, ap, subst}
 use mathlib.Core.Bool.{Bool, true, false, cond}
-use mathlib.Core.List.{List, [], ◌∷◌, ◌++◌}
+use mathlib.Core.List.{List, [], ◌∷◌, ◌++◌, append-nil}
 use mathlib.Core.Logic.{⊎_elim}
 use mathlib.Core.Option.{Option, some, none}
 use native.Mathlib.Nat.{le_refl, lt_irrefl}
 use native.Mathlib.Omega.{arith}
 use borrow.Author.Tests.{le-leb, eqb-true, eqb-false, ne_eqb}
 use lib.Dec.{leb, eqb}
-use lib.ListN.{length, take, length-append}
+use lib.ListN.{length, length-append}
+use Rattle.std.specs.Result.{IsOk}
+use Rattle.std.specs.declared.option.Option.{Option as Found}
+use Rattle.std.specs.declared.option.Option.TheVariants.{Some, None}
+use Rattle.std.specs.declared.result.Result.{Result}
+use Rattle.std.specs.declared.result.Result.TheVariants.{Ok, Err}
 use Rattle.rules.specs.Records.{table_bad, unadmitted}
 use Rattle.basis.specs.Words.{unless, onto}
-use Rattle.rules.specs.Numbers.{Pairs, TableInRange, StateInRange}
-use Rattle.rules.specs.Refusals.{Refused, ground, unless_before, bad_table, not_admitted, refusal}
+use Rattle.rules.specs.Numbers.{TableInRange, StateInRange}
+use Rattle.rules.specs.declared.Pairs.{Pairs}
+use Rattle.rules.specs.Refusals.{Refused, refused_as, ground, unless_before, bad_table, not_admitted, refusal}
 use Rattle.file_rules.specs.MeterFile.{most_bytes, kind_at, next_at, meter_kinds, form, is_record, Record, Reading, and_then, read_from, reading, is_event, events_of, beginning, table_of, events_in, over_limit, malformed_at}
 use Rattle.file_rules.specs.Events.{Event, ticked, released, event_at, after, inactive, ticks_after}
 use Rattle.file_rules.specs.Printers.{schedule_header, end_line, event_line, refused_line, unless_inactive, schedule_from, schedule_output, fresh_of}
+use Rattle.rules.specs.declared.Refusal.{Refusal}
 use Rattle.rules.specs.declared.Refusal.TheVariants.{NotActive}
 use Rattle.rules.specs.declared.Table.{Table}
 use Rattle.laws.proofs.Tests.{some_is_none, below_or_not}
@@ -24,28 +31,26 @@ use Rattle.file_laws.proofs.MeterFile.{a_record, next_further, Whole, record_who
 use Rattle.file_laws.proofs.Records.{reading_small, reading_large, read_on, read_stops, read_ends, before_same, rounds_same, EventsFrom, events-from}
 use Rattle.laws.proofs.Keeps.{fresh_in_range, release_in_range, tick_in_range}
 use Rattle.verdicts.specs.Outcome.{refused, gives}
-use Rattle.verdicts.specs.declared.Verdict.TheVariants as verdict
 use Rattle.verdicts.proofs.Outcomes.{refused_as_lem, given_as, never_both}
-use Rattle.scheduler.specs.States.{pairs}
-use Rattle.scheduler.specs.Promises.{Change, change, FreshIs}
+use Rattle.scheduler.specs.Promises.{Change, changed_as, made, change, FreshIs}
 use Rattle.scheduler.specs.declared.State.{State}
-use Rattle.scheduler.specs.declared.Changed.{Changed}
 use Rattle.whole_file.specs.Promises.{Judged, JudgeFileIs}
 use Rattle.whole_file.specs.declared.MeterFile.{MeterFile}
 use Rattle.lines.specs.Lines.{bytes_of, longest_line}
 use Rattle.lines.specs.declared.Line.TheVariants as line
 use Rattle.lines.proofs.Longest.{no_longer}
 use Rattle.schedule_lines.specs.Coming.{Coming, counted_on, ticks_on, plain, event_coming, coming}
-use Rattle.schedule_lines.specs.Promises.{OneLine, Printing, made_as, printed_as, printing, OneLineIs}
+use Rattle.schedule_lines.specs.Promises.{Printing, printed_as, printing, OneLineIs}
 use Rattle.schedule_lines.specs.declared.Cursor.{Cursor}
 use Rattle.schedule_lines.specs.declared.Cursor.TheVariants as cursor
-use Rattle.schedule_lines.specs.declared.Next.{Next}
-use Rattle.schedule_lines.specs.declared.Next.TheVariants as next
+use Rattle.schedule_lines.specs.declared.Printed.{Printed}
 use Rattle.outputs.specs.ScheduleMoments.{from, Moment, still, to_write, At, left}
+use Rattle.outputs.specs.After.{lines_after, HoldsAfter, left_after}
 use Rattle.outputs.specs.ScheduleCalls.{Call, Lines, goes_on, ends, stops, SchedulePrinted}
 use Rattle.outputs.specs.ScheduleCalls as calls
-use Rattle.outputs.proofs.LineInBuffer.{has_room, taken, refused_written}
-use Rattle.outputs.proofs.JudgedFile.{output_refused, output_good, holds, table_is, events_are, whole, in_range, admitted}
+use Rattle.outputs.proofs.LineInBuffer.{has_room, refused_written}
+use Rattle.outputs.proofs.LineMade.{LineMade, line_last, line_then}
+use Rattle.outputs.proofs.JudgedFile.{refused_outputs, output_good, holds, table_is, events_are, whole, in_range, admitted}
 
 -- a kind that may come after an event is an event's
 event_there : (k : ℕ) → 0 < (form k).place → (form 3).place ≤ (form k).place → is_event k ≡ true
@@ -161,64 +166,68 @@ unfolding bytes_of
 event-short ticks (ticked pick) = no_longer (line.Tick ticks pick)
 event-short ticks (released index) = no_longer (line.Release ticks index)
 
--- a line that goes on isn't the last
-pub line_is_nothing : {A : Type 0} {c : Cursor} → next.Line c ≡ next.Nothing → A
-line_is_nothing {A} {c} e = absurd (differ e)
-  where
-    named : Next → ℕ
-    named (next.Line d) = 0
-    named next.Nothing = 1
+-- what a call made that gives a line, and one that is refused
+is_made : {x : Pairs} {n : ℕ} {next : Found Cursor} {bytes : List ℕ} (given : State) (r : Result Printed Refusal) (last : List ℕ)
+    → printed_as given r last ≡ record { after = x; says = gives (record { length = n; next = next }); buffer = bytes }
+    → (r ≡ Ok (record { state = record { pairs = x }; made = record { length = n; next = next } })) × (last ≡ bytes)
+is_made given (Ok p) last e =
+    let says = given_as (ap (λ (x : Printing). x.says) e) in
+    (λ i. Ok (record { state = record { pairs = (e i).after }; made = record { length = (says i).length; next = (says i).next } }), ap (λ (x : Printing). x.buffer) e)
+is_made given (Err q) last e = never_both (sym (ap (λ (x : Printing). x.says) e))
 
-    differ : next.Line c ≡ next.Nothing → ⊥
-    differ p = let z : ◌≡◌ {A = ℕ} 0 1 = ap named p in omega arith
+is_refused : {x : Pairs} {why : Refused} {bytes : List ℕ} (given : State) (r : Result Printed Refusal) (last : List ℕ)
+    → printed_as given r last ≡ record { after = x; says = refused why; buffer = bytes } → (q : Refusal) × (r ≡ Err q) × (refused_as q ≡ why)
+is_refused given (Ok p) last e = never_both (ap (λ (x : Printing). x.says) e)
+is_refused given (Err q) last e = (q, refl, refused_as_lem (ap (λ (x : Printing). x.says) e))
 
 module _ (file : List ℕ) (t : Table) where
   module _ (s : State) (c : Cursor) (call : Call file t s c) where
-    -- what a call does: a line and more, the last line, or refusal 6
-    pub data Went : Type 0 where
-      on : (bytes : List ℕ) (then : Cursor) → length bytes ≤ longest_line → left file t then < left file t c → made_as call.answer.made ≡ gives (record { length = length bytes; next = next.Line then }) → call.last ≡ onto bytes call.buffer
-          → to_write file t (pairs s) c ≡ bytes ++ to_write file t (pairs call.answer.state) then → At file t (pairs call.answer.state) then → Went
-      over : (bytes : List ℕ) → length bytes ≤ longest_line → made_as call.answer.made ≡ gives (record { length = length bytes; next = next.Nothing }) → call.last ≡ onto bytes call.buffer
-          → to_write file t (pairs s) c ≡ bytes → Went
-      out : (i : ℕ) → made_as call.answer.made ≡ refused (record { number = 6; second = i }) → to_write file t (pairs s) c ≡ refused_line (record { number = 6; second = i }) → Went
+    -- what a call does that gives a line
+    abbrev pub ScheduleMade : Printed → Type 0
+    ScheduleMade p = LineMade (to_write file t p.state.pairs) (At file t p.state.pairs) (left file t) (to_write file t s.pairs c) (left file t c) call.buffer call.last p.made
+
+    -- a line, or refusal 6, after which there is no more
+    data Went : Type 0 where
+      on : (p : Printed) → call.answer ≡ Ok p → ScheduleMade p → Went
+      out : (q : Refusal) → call.answer ≡ Err q → to_write file t s.pairs c ≡ refused_line (refused_as q) → Went
 
     -- one line, where what comes is known and nothing but 6 is against it
-    module _ (d : Coming) (same : coming file t (pairs s) c ≡ d) (fault : d.fault ≡ none) (short : length d.line ≤ longest_line)
-        (table : TableInRange t.count t.period t.budget t.phase) (state : StateInRange t.count t.period t.budget s.b s.o) where
-      said : printed_as call.answer call.last ≡ printing (unless_before 6 d.inactive none) (pairs s) d call.buffer
+    module _ (d : Coming) (same : coming file t s.pairs c ≡ d) (fault : d.fault ≡ none) (short : length d.line ≤ longest_line)
+        (table : TableInRange t.count t.period t.budget t.phase) (state : StateInRange t.count t.period t.budget s.pairs.b s.pairs.o) where
+      said : printed_as s call.answer call.last ≡ printing (unless_before 6 d.inactive none) s.pairs d call.buffer
       said =
           subst (λ (x : Coming). OneLineIs t s x call.buffer call.answer call.last) same call.is
-          ∙ ap (λ (o : Option Refused). printing o (pairs s) d call.buffer)
+          ∙ ap (λ (o : Option Refused). printing o s.pairs d call.buffer)
           (six_alone _ _ _ _ d.inactive fault table state.pairs (has_room d.line call.buffer short call.room))
 
-      one : d.inactive ≡ none → printed_as call.answer call.last ≡ record { after = d.after; says = gives (record { length = length d.line; next = d.next }); buffer = onto d.line call.buffer }
+      one : d.inactive ≡ none → to_write file t s.pairs c ≡ d.line ++ lines_after (to_write file t d.after) d.next → HoldsAfter (At file t d.after) d.next → left_after (left file t) d.next < left file t c → Went
       unfolding printing
-      one e = said ∙ ap (λ (x : Option ℕ). printing (unless_before 6 x none) (pairs s) d call.buffer) e
+      one e all at nearer =
+          on (record { state = record { pairs = d.after }; made = record { length = length d.line; next = d.next } }) (is_made s call.answer call.last made).0
+          (record { bytes = d.line; short = short; count = refl; there = (is_made s call.answer call.last made).1; all = all; at = at; nearer = nearer })
+        where
+          made : printed_as s call.answer call.last ≡ record { after = d.after; says = gives (record { length = length d.line; next = d.next }); buffer = onto d.line call.buffer }
+          made = said ∙ ap (λ (x : Option ℕ). printing (unless_before 6 x none) s.pairs d call.buffer) e
 
-      none_made : (i : ℕ) → d.inactive ≡ some i → printed_as call.answer call.last ≡ record { after = pairs s; says = refused (record { number = 6; second = i }); buffer = call.buffer }
+      none_made : (i : ℕ) → d.inactive ≡ some i → to_write file t s.pairs c ≡ refused_line (record { number = 6; second = i }) → Went
       unfolding printing
-      none_made i e = said ∙ ap (λ (x : Option ℕ). printing (unless_before 6 x none) (pairs s) d call.buffer) e
+      none_made i e all =
+          let q = is_refused s call.answer call.last (said ∙ ap (λ (x : Option ℕ). printing (unless_before 6 x none) s.pairs d call.buffer) e) in
+          out q.0 q.1 (all ∙ sym (ap refused_line q.2))
 
   -- the header
-  went_header : (s : State) (events : ℕ) (call : Call file t s (cursor.Header events)) → Moment file t (pairs s) events 0 → Went s (cursor.Header events) call
-  unfolding coming to_write At left
+  went_header : (s : State) (events : ℕ) (call : Call file t s (cursor.Header events)) → Moment file t s.pairs events 0 → Went s (cursor.Header events) call
+  unfolding coming to_write At left lines_after HoldsAfter left_after
   went_header s events call now =
-      on schedule_header (cursor.Record events 0) (omega arith) (omega arith) (ap (λ (x : Printing). x.says) made) (ap (λ (x : Printing). x.buffer) made)
-      (ap (λ (x : Pairs). schedule_header ++ still file t x events 0) (sym same_state))
-      (subst (λ (x : Pairs). Moment file t x events 0) (sym same_state) now)
+      one s (cursor.Header events) call (plain file s.pairs schedule_header (Some (cursor.Record events 0))) refl limit (omega arith) now.table now.state refl
+      refl now (omega arith)
     where
       limit : over_limit file ≡ none
       limit = ap (λ (a : Bool). unless a most_bytes) (le-leb (length file) most_bytes now.small)
 
-      made : printed_as call.answer call.last ≡ record { after = pairs s; says = gives (record { length = length schedule_header; next = next.Line (cursor.Record events 0) }); buffer = onto schedule_header call.buffer }
-      made = one s (cursor.Header events) call (plain file (pairs s) schedule_header (next.Line (cursor.Record events 0))) refl limit (omega arith) now.table now.state refl
-
-      same_state : pairs call.answer.state ≡ pairs s
-      same_state = ap (λ (x : Printing). x.after) made
-
   -- a record, or the end
-  went_record : (s : State) (at ticks : ℕ) (call : Call file t s (cursor.Record at ticks)) → Moment file t (pairs s) at ticks → Went s (cursor.Record at ticks) call
-  unfolding coming to_write At left bytes_of
+  went_record : (s : State) (at ticks : ℕ) (call : Call file t s (cursor.Record at ticks)) → Moment file t s.pairs at ticks → Went s (cursor.Record at ticks) call
+  unfolding coming to_write At left bytes_of lines_after HoldsAfter left_after
   went_record s at ticks call now = go (eqb at (length file)) refl
     where
       limit : over_limit file ≡ none
@@ -226,76 +235,72 @@ module _ (file : List ℕ) (t : Table) where
 
       go : (a : Bool) → eqb at (length file) ≡ a → Went s (cursor.Record at ticks) call
       go true e =
-          let made = one s (cursor.Record at ticks) call (plain file (pairs s) (end_line ticks) next.Nothing) (rw e) limit (no_longer (line.End ticks)) now.table now.state refl in
-          over (end_line ticks) (no_longer (line.End ticks)) (ap (λ (x : Printing). x.says) made) (ap (λ (x : Printing). x.buffer) made) (still_ends file t (pairs s) at ticks now (eqb-true at (length file) e))
-      go false e = played (inactive t (pairs s) (event_at t (pairs s) file (kind_at file at) at)) refl
+          let last : at ≡ length file = eqb-true at (length file) e in
+          one s (cursor.Record at ticks) call (plain file s.pairs (end_line ticks) None) (rw e) limit (no_longer (line.End ticks)) now.table now.state refl
+          (still_ends file t s.pairs at ticks now last ∙ sym (append-nil (end_line ticks))) tt (omega (arith, last))
+      go false e = played (inactive t s.pairs event_here) refl
         where
           inside : at < length file
           inside = let least : at ≤ length file = now.inside in let other : at ≡ length file → ⊥ = eqb-false at (length file) e in omega (arith, least, other)
 
-          here : coming file t (pairs s) (cursor.Record at ticks) ≡ event_coming file t (pairs s) at ticks
+          event_here : Event
+          event_here = event_at t s.pairs file (kind_at file at) at
+
+          here : coming file t s.pairs (cursor.Record at ticks) ≡ event_coming file t s.pairs at ticks
           here = rw e
 
           sound : malformed_at meter_kinds 3 file at ≡ none
-          sound = not_malformed_here file t (pairs s) at ticks now inside
+          sound = not_malformed_here file t s.pairs at ticks now inside
 
-          goes : still file t (pairs s) at ticks ≡ unless_inactive (inactive t (pairs s) (event_at t (pairs s) file (kind_at file at) at)) (event_line ticks (event_at t (pairs s) file (kind_at file at) at) ++ still file t (after t (pairs s) (event_at t (pairs s) file (kind_at file at) at)) (next_at file at) (ticks_after ticks (event_at t (pairs s) file (kind_at file at) at)))
-          goes = still_goes_on file t (pairs s) at ticks now inside
+          goes : still file t s.pairs at ticks ≡ unless_inactive (inactive t s.pairs event_here) (event_line ticks event_here ++ still file t (after t s.pairs event_here) (next_at file at) (ticks_after ticks event_here))
+          goes = still_goes_on file t s.pairs at ticks now inside
 
-          played : (v : Option ℕ) → inactive t (pairs s) (event_at t (pairs s) file (kind_at file at) at) ≡ v → Went s (cursor.Record at ticks) call
+          same_ticks : ticks_after ticks event_here ≡ ticks_on ticks event_here
+          same_ticks = sym (ticks_on_lem file t s.pairs at ticks now inside)
+
+          played : (v : Option ℕ) → inactive t s.pairs event_here ≡ v → Went s (cursor.Record at ticks) call
           played none f =
-              on (event_line ticks (event_at t (pairs s) file (kind_at file at) at)) (cursor.Record (next_at file at) (ticks_on ticks (event_at t (pairs s) file (kind_at file at) at)))
-              (event-short ticks (event_at t (pairs s) file (kind_at file at) at)) (let further : at + 6 ≤ next_at file at = far file t (pairs s) at ticks now inside in omega (arith, further, inside))
-              (ap (λ (x : Printing). x.says) made) (ap (λ (x : Printing). x.buffer) made)
-              (goes ∙ unless-none _ f ∙ (λ i. event_line ticks (event_at t (pairs s) file (kind_at file at) at) ++ still file t (same_state i) (next_at file at) (same_ticks i)))
-              (subst (λ (x : Pairs). Moment file t x (next_at file at) (ticks_on ticks (event_at t (pairs s) file (kind_at file at) at))) same_state
-              (subst (λ (k : ℕ). Moment file t (after t (pairs s) (event_at t (pairs s) file (kind_at file at) at)) (next_at file at) k) same_ticks (next_moment file t (pairs s) at ticks now inside)))
-            where
-              made : printed_as call.answer call.last ≡ record { after = after t (pairs s) (event_at t (pairs s) file (kind_at file at) at); says = gives (record { length = length (event_line ticks (event_at t (pairs s) file (kind_at file at) at)); next = next.Line (cursor.Record (next_at file at) (ticks_on ticks (event_at t (pairs s) file (kind_at file at) at))) }); buffer = onto (event_line ticks (event_at t (pairs s) file (kind_at file at) at)) call.buffer }
-              made = one s (cursor.Record at ticks) call (event_coming file t (pairs s) at ticks) here sound (event-short ticks (event_at t (pairs s) file (kind_at file at) at)) now.table now.state f
-
-              same_state : after t (pairs s) (event_at t (pairs s) file (kind_at file at) at) ≡ pairs call.answer.state
-              same_state = sym (ap (λ (x : Printing). x.after) made)
-
-              same_ticks : ticks_after ticks (event_at t (pairs s) file (kind_at file at) at) ≡ ticks_on ticks (event_at t (pairs s) file (kind_at file at) at)
-              same_ticks = sym (ticks_on_lem file t (pairs s) at ticks now inside)
+              let further : at + 6 ≤ next_at file at = far file t s.pairs at ticks now inside in
+              one s (cursor.Record at ticks) call (event_coming file t s.pairs at ticks) here sound (event-short ticks event_here) now.table now.state f
+              (goes ∙ unless-none _ f ∙ ap (λ (k : ℕ). event_line ticks event_here ++ still file t (after t s.pairs event_here) (next_at file at) k) same_ticks)
+              (subst (λ (k : ℕ). Moment file t (after t s.pairs event_here) (next_at file at) k) same_ticks (next_moment file t s.pairs at ticks now inside))
+              (omega (arith, further, inside))
           played (some i) f =
-              let made = none_made s (cursor.Record at ticks) call (event_coming file t (pairs s) at ticks) here sound (event-short ticks (event_at t (pairs s) file (kind_at file at) at)) now.table now.state i f in
-              out i (ap (λ (x : Printing). x.says) made) (goes ∙ unless-some _ i f)
+              none_made s (cursor.Record at ticks) call (event_coming file t s.pairs at ticks) here sound (event-short ticks event_here) now.table now.state i f
+              (goes ∙ unless-some _ i f)
 
-  pub went : (s : State) (c : Cursor) (call : Call file t s c) → At file t (pairs s) c → Went s c call
+  went : (s : State) (c : Cursor) (call : Call file t s c) → At file t s.pairs c → Went s c call
   unfolding At
   went s (cursor.Header events) call now = went_header s events call now
   went s (cursor.Record at ticks) call now = went_record s at ticks call now
 
-  -- the calls from a cursor on write what is still to be written there
-  joined : {s : State} {c : Cursor} {output : List ℕ} → Lines file t s c output → At file t (pairs s) c → output ≡ to_write file t (pairs s) c
-  joined (goes_on {s} {c} {rest} call n then made-is later) now = finish (went s c call now) (λ (a : At file t (pairs call.answer.state) then). joined later a)
-    where
-      finish : Went s c call → (At file t (pairs call.answer.state) then → rest ≡ to_write file t (pairs call.answer.state) then) → take n call.last ++ rest ≡ to_write file t (pairs s) c
-      finish (on bytes further m l e f g h) ih =
-          (λ i. taken n bytes call.buffer call.last (ap (λ (x : OneLine). x.length) same) f i ++ (ih (subst (At file t (pairs call.answer.state)) (sym then_is) h) ∙ ap (to_write file t (pairs call.answer.state)) then_is) i)
-          ∙ sym g
-        where
-          same : ◌≡◌ {A = OneLine} (record { length = n; next = next.Line then }) (record { length = length bytes; next = next.Line further })
-          same = given_as (sym (ap made_as made-is) ∙ e)
+  -- at a cursor it isn't the end
+  pub some_left : (s : Pairs) (c : Cursor) → At file t s c → 0 < left file t c
+  unfolding At left
+  some_left s (cursor.Header events) now = omega arith
+  some_left s (cursor.Record at ticks) now = let inside : at ≤ length file = now.inside in omega (arith, inside)
 
-          then_is : then ≡ further
-          then_is = let lines : next.Line then ≡ next.Line further = ap (λ (x : OneLine). x.next) same in cc
-      finish (over bytes m e f g) ih = line_is_nothing (ap (λ (x : OneLine). x.next) (given_as (sym (ap made_as made-is) ∙ e)))
-      finish (out i e g) ih = never_both (sym (ap made_as made-is) ∙ e)
-  joined (ends {s} {c} call n made-is) now = finish (went s c call now)
-    where
-      finish : Went s c call → take n call.last ≡ to_write file t (pairs s) c
-      finish (on bytes further m l e f g h) = line_is_nothing (sym (ap (λ (x : OneLine). x.next) (given_as (sym (ap made_as made-is) ∙ e))))
-      finish (over bytes m e f g) = taken n bytes call.buffer call.last (ap (λ (x : OneLine). x.length) (given_as (sym (ap made_as made-is) ∙ e))) f ∙ sym g
-      finish (out i e g) = never_both (sym (ap made_as made-is) ∙ e)
-  joined (stops {s} {c} {output} call q made-is written) now = finish (went s c call now)
-    where
-      finish : Went s c call → output ≡ to_write file t (pairs s) c
-      finish (on bytes further m l e f g h) = never_both (sym e ∙ ap made_as made-is)
-      finish (over bytes m e f g) = never_both (sym e ∙ ap made_as made-is)
-      finish (out i e g) = refused_written q output written ∙ ap refused_line (refused_as_lem (sym (ap made_as made-is) ∙ e)) ∙ sym g
+  -- what the answer of a call makes
+  module _ (s : State) (c : Cursor) (call : Call file t s c) (now : At file t s.pairs c) where
+    pub line_made : (p : Printed) → call.answer ≡ Ok p → ScheduleMade s c call p
+    line_made p e = go (went s c call now)
+      where
+        go : Went s c call → ScheduleMade s c call p
+        go (on made d m) = let same : made ≡ p = cc in subst (ScheduleMade s c call) same m
+        go (out q d f) = cc
+
+    pub line_refused : (q : Refusal) → call.answer ≡ Err q → to_write file t s.pairs c ≡ refused_line (refused_as q)
+    line_refused q e = go (went s c call now)
+      where
+        go : Went s c call → to_write file t s.pairs c ≡ refused_line (refused_as q)
+        go (on made d m) = cc
+        go (out why d f) = let same : why ≡ q = cc in f ∙ ap (λ (x : Refusal). refused_line (refused_as x)) same
+
+  -- the calls from a cursor on write what is still to be written there
+  joined : {s : State} {c : Cursor} {output : List ℕ} → Lines file t s c output → At file t s.pairs c → output ≡ to_write file t s.pairs c
+  joined (goes_on {s} {c} {rest} call p then e goes later) now = line_then _ _ _ _ _ call.buffer call.last p.made (line_made s c call now p e) then goes rest (λ a. joined later a)
+  joined (ends {s} {c} call p e goes) now = line_last _ _ _ _ _ call.buffer call.last p.made (line_made s c call now p e) goes
+  joined (stops {s} {c} {output} call q e written) now = refused_written q output written ∙ sym (line_refused s c call now q e)
 
 -- ---- how much there can be to write
 schedule_short : (file : List ℕ) (t : Table) (s : Pairs) (ticks : ℕ) (rs : List Record) → length (schedule_from t file s ticks rs) ≤ 64 * (length rs + 1)
@@ -343,15 +348,15 @@ little_to_write file t s (cursor.Record at ticks) now =
     omega (arith, few, short, small)
 
 -- ---- the theorem
-module _ (file : List ℕ) (m : MeterFile) (judged : JudgeFileIs file m) (good : m.verdict ≡ verdict.Good) where
+module _ (file : List ℕ) (m : MeterFile) (judged : JudgeFileIs file (Ok m)) where
   small : length file ≤ most_bytes
-  small = ⊎_elim (λ l. some_is_none (sym (ap (λ (x : Reading). x.fault) (reading_large meter_kinds file l)) ∙ whole file m judged good)) (λ l. l) (below_or_not most_bytes (length file))
+  small = ⊎_elim (λ l. some_is_none (sym (ap (λ (x : Reading). x.fault) (reading_large meter_kinds file l)) ∙ whole file m judged)) (λ l. l) (below_or_not most_bytes (length file))
 
   events : EventsFrom meter_kinds file (events_in file)
   unfolding events_in
   events =
       subst (λ (x : Reading). EventsFrom meter_kinds file (events_of x.records)) (sym read_all)
-      (events-from meter_kinds file (length file) 0 0 (omega arith) (ap (λ (x : Reading). x.fault) (sym read_all) ∙ whole file m judged good))
+      (events-from meter_kinds file (length file) 0 0 (omega arith) (ap (λ (x : Reading). x.fault) (sym read_all) ∙ whole file m judged))
     where
       read_all : reading meter_kinds file ≡ read_from meter_kinds file (length file) 0 0
       read_all = reading_small meter_kinds file small
@@ -362,48 +367,55 @@ module _ (file : List ℕ) (m : MeterFile) (judged : JudgeFileIs file m) (good :
   first_moment =
       record {
         small = small;
-        table = in_range file m judged good;
-        state = fresh_in_range (table_of file).count (table_of file).period (table_of file).budget (table_of file).phase (in_range file m judged good);
+        table = in_range file m judged;
+        state = fresh_in_range (table_of file).count (table_of file).period (table_of file).budget (table_of file).phase (in_range file m judged);
         inside = events.inside;
         sound = ap (λ (x : Reading). x.fault) events.read;
         few = omega arith;
       }
 
   -- and with those of the calls
-  module _ (old : State) (start : Changed) (fresh : FreshIs m.table old start) where
-    pub begins : pairs start.state ≡ fresh_of (table_of file)
-    unfolding change
-    begins =
-        ap (λ (x : Change). x.after)
-        (fresh
-        ∙ ap (λ (t : Table). change (refusal (table_bad t ∷ unadmitted t ∷ [])) (pairs old) (fresh_of t)) (table_is file m judged good)
-        ∙ ap (λ (o : Option Refused). change o (pairs old) (fresh_of (table_of file))) none-against)
-      where
-        none-against : refusal (bad_table (table_of file).count (table_of file).period (table_of file).budget (table_of file).phase ∷ not_admitted (table_of file).count (table_of file).period (table_of file).budget ∷ []) ≡ none
-        none-against = two_none _ _ (in_range file m judged good) (admitted file m judged good)
+  fresh_change : (old : State) (r : Result State Refusal) → FreshIs m.table old r → changed_as old r ≡ made (fresh_of (table_of file))
+  unfolding change
+  fresh_change old r fresh =
+      fresh
+      ∙ ap (λ (t : Table). change (refusal (table_bad t ∷ unadmitted t ∷ [])) old.pairs (fresh_of t)) (table_is file m judged)
+      ∙ ap (λ (o : Option Refused). change o old.pairs (fresh_of (table_of file))) none-against
+    where
+      none-against : refusal (bad_table (table_of file).count (table_of file).period (table_of file).budget (table_of file).phase ∷ not_admitted (table_of file).count (table_of file).period (table_of file).budget ∷ []) ≡ none
+      none-against = two_none _ _ (in_range file m judged) (admitted file m judged)
 
-    pub start_moment : Moment file m.table (pairs start.state) m.events 0
+  -- a fresh start isn't refused
+  pub fresh_given : (old : State) (r : Result State Refusal) → FreshIs m.table old r → IsOk r
+  fresh_given old (Ok start) fresh = refl
+  fresh_given old (Err q) fresh = let differ : some (refused_as q) ≡ none = ap (λ (x : Change). x.refused) (fresh_change old (Err q) fresh) in cc
+
+  module _ (old start : State) (fresh : FreshIs m.table old (Ok start)) where
+    pub begins : start.pairs ≡ fresh_of (table_of file)
+    begins = ap (λ (x : Change). x.after) (fresh_change old (Ok start) fresh)
+
+    pub start_moment : Moment file m.table start.pairs m.events 0
     start_moment =
-        subst (λ (x : Judged). Moment file x.table (pairs start.state) x.events 0) (sym (holds file m judged good))
+        subst (λ (x : Judged). Moment file x.table start.pairs x.events 0) (sym (holds file m judged))
         (subst (λ (p : Pairs). Moment file (table_of file) p (beginning (events_in file) (length file)) 0) (sym begins) first_moment)
 
-    pub start-at : At file m.table (pairs start.state) (cursor.Header m.events)
+    pub start-at : At file m.table start.pairs (cursor.Header m.events)
     unfolding At
     start-at = start_moment
 
     -- all that is to be written
-    pub all-to_write : to_write file m.table (pairs start.state) (cursor.Header m.events) ≡ schedule_header ++ schedule_from (table_of file) file (fresh_of (table_of file)) 0 (events_in file)
+    pub all-to_write : to_write file m.table start.pairs (cursor.Header m.events) ≡ schedule_header ++ schedule_from (table_of file) file (fresh_of (table_of file)) 0 (events_in file)
     unfolding to_write still from
     all-to_write =
-        (λ i. schedule_header ++ schedule_from (table_is file m judged good i) file (begins i) 0 (read_from meter_kinds file (length file) 3 (events_are file m judged good i)).records)
+        (λ i. schedule_header ++ schedule_from (table_is file m judged i) file (begins i) 0 (read_from meter_kinds file (length file) 3 (events_are file m judged i)).records)
         ∙ ap (λ (x : Reading). schedule_header ++ schedule_from (table_of file) file (fresh_of (table_of file)) 0 x.records) events.read
 
     -- is what the calls write
-    pub all_written : {output : List ℕ} → Lines file m.table start.state (cursor.Header m.events) output
+    pub all_written : {output : List ℕ} → Lines file m.table start (cursor.Header m.events) output
         → output ≡ schedule_header ++ schedule_from (table_of file) file (fresh_of (table_of file)) 0 (events_in file)
     all_written lines = joined file m.table lines start-at ∙ all-to_write
 
 pub schedule_printed : (file : List ℕ) {output : List ℕ} → SchedulePrinted file output → output ≡ schedule_output file
 unfolding schedule_output
-schedule_printed file (calls.refused {output} m judged q e written) = refused_written q output written ∙ sym (output_refused file m judged q e _)
-schedule_printed file (calls.printed {output} m judged good old start fresh lines) = all_written file m judged good old start fresh lines ∙ sym (output_good file m judged good _)
+schedule_printed file (calls.refused {output} q judged written) = refused_written q output written ∙ (refused_outputs file q judged).0
+schedule_printed file (calls.printed {output} m judged old start fresh lines) = all_written file m judged old start fresh lines ∙ sym (output_good file m judged _)

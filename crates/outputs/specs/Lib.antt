@@ -7,3 +7,5 @@ pub mod ResponseCalls
 -- between two calls: what holds, and what is still to be written
 pub mod ScheduleMoments
 pub mod ResponseMoments
+-- after a call: the same, of the cursor that it gives, if it does
+pub mod After

@@ -1,7 +1,8 @@
 -- What holds between two calls of the schedule printer, and what is still to be written then.
 use Rattle.std.specs.Prelude.{ℕ, suc, ◌-◌, ◌≤◌, ◌≡◌, List, ◌++◌, length}
 use Rattle.std.proofs.Math.Option.{none}
-use Rattle.rules.specs.Numbers.{Pairs, TableInRange, StateInRange}
+use Rattle.rules.specs.Numbers.{TableInRange, StateInRange}
+use Rattle.rules.specs.declared.Pairs.{Pairs}
 use Rattle.file_rules.specs.MeterFile.{most_bytes, meter_kinds, Reading, read_from}
 use Rattle.file_rules.specs.Printers.{schedule_header, schedule_from}
 use Rattle.rules.specs.declared.Table.{Table}

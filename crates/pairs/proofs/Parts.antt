@@ -16,15 +16,18 @@ use Rattle.basis.specs.Reckoned.{Reckoned}
 use Rattle.rules.specs.Numbers.{pair_in_range, first_bad_pair}
 use Rattle.rules.specs.Refusals.{ground, refusal}
 use Rattle.rules.specs.declared.Refusal.{Refusal}
+use Rattle.rules.specs.declared.Pairs.{Pairs}
+use Rattle.rules.specs.declared.Table.{Table}
 use Rattle.rules.specs.declared.Refusal.TheVariants.{BadPair}
 use Rattle.laws.proofs.Tests.{below_or_not, off_left}
 use Rattle.laws.proofs.Places.{First, first-none, first_some, some_first, first_same, PassTo, pass_begins, pass_next, none_fails}
-use Rattle.laws.proofs.Refusals.{state_alone}
+use Rattle.laws.proofs.Refusals.{state_alone, table_then_state}
 use Rattle.pairs.specs.Parts.{paired, first_bad_inside, first_bad_beyond, PairsJudged}
-use Rattle.pairs.specs.Promises.{JudgeStateIs}
-use Rattle.verdicts.specs.declared.Verdict.{Verdict}
-use Rattle.verdicts.specs.declared.Verdict.TheVariants as verdict
-use Rattle.verdicts.proofs.Verdicts.{says_bad, says_good, sooner_refused, left_to_later}
+use Rattle.ranges.specs.Promises.{JudgeTableIs}
+use Rattle.pairs.specs.Promises.{JudgeStateIs, JudgeIs}
+use Rattle.std.specs.declared.result.Result.{Result}
+use Rattle.std.specs.declared.result.Result.TheVariants.{Ok, Err}
+use Rattle.verdicts.proofs.Verdicts.{says_bad, says_good, judged_early, judged_later, sooner_refused, left_to_later}
 
 -- ---- the first of k that passes a test is the first below m, or else the first from m on
 module _ (m k : ℕ) (test below beyond : ℕ → Bool) (fits : m ≤ k) (same-below : (i : ℕ) → i < m → test i ≡ below i)
@@ -97,19 +100,30 @@ module _ (T B b o : List ℕ) where
   abbrev pub fine : ℕ → Bool
   fine i = within 0 (B ! i) (b ! i) && within 1 (T ! i) (o ! i)
 
-  pub bad_inside : (n i : ℕ) → first n (λ j. not (fine j)) ≡ some i → PairsJudged (first_bad_inside n T B b o) (verdict.Refused (BadPair i))
+  pub bad_inside : (n i : ℕ) → first n (λ j. not (fine j)) ≡ some i → PairsJudged (first_bad_inside n T B b o) (Err (BadPair i))
   unfolding first_bad_inside
   bad_inside n i e = says_bad 3 state_alone _ (BadPair i) i refl e
 
-  pub good_inside : (n : ℕ) → first n (λ j. not (fine j)) ≡ none → PairsJudged (first_bad_inside n T B b o) verdict.Good
+  pub good_inside : (n : ℕ) → first n (λ j. not (fine j)) ≡ none → PairsJudged (first_bad_inside n T B b o) (Ok tt)
   unfolding first_bad_inside
   good_inside n e = says_good 3 state_alone _ e
 
 -- ---- judging the pairs beyond it
+module _ (b o : List ℕ) where
+  -- the test of one of them
+  abbrev pub nothing : ℕ → Bool
+  nothing i = eqb (b ! i) 0 && eqb (o ! i) 0
+
 module _ (n : ℕ) (b o : List ℕ) where
-  -- the test of a pair, which those inside the table pass
+  -- the test of any pair, which those inside the table pass
   abbrev pub empty : ℕ → Bool
-  empty i = ltb i n || (eqb (b ! i) 0 && eqb (o ! i) 0)
+  empty i = ltb i n || nothing b o i
+
+  pub inside_passes : (i : ℕ) → i < n → not (empty i) ≡ false
+  inside_passes i l = rw (lt-ltb i n l)
+
+  pub beyond_same : (i : ℕ) → n ≤ i → not (empty i) ≡ not (nothing b o i)
+  beyond_same i l = rw (le-ltb i n l)
 
   pub beyond_begins : PassTo empty n
   beyond_begins = go n (le_refl n)
@@ -133,30 +147,38 @@ module _ (n : ℕ) (b o : List ℕ) where
   unfolding first_bad_beyond
   nothing_there j sum all-of-them l k e = none_fails empty j (all-of-them (eqb-true sum 0 e)) 16 l k
 
-  pub good_there : first_bad_beyond n b o ≡ none → PairsJudged (first_bad_beyond n b o) verdict.Good
+  pub good_there : first_bad_beyond n b o ≡ none → PairsJudged (first_bad_beyond n b o) (Ok tt)
   good_there e = says_good 3 state_alone _ e
 
-  pub bad_beyond : (i : ℕ) → first 16 (λ j. not (empty j)) ≡ some i → PairsJudged (first_bad_beyond n b o) (verdict.Refused (BadPair i))
+  pub bad_beyond : (i : ℕ) → first 16 (λ j. not (empty j)) ≡ some i → PairsJudged (first_bad_beyond n b o) (Err (BadPair i))
   unfolding first_bad_beyond
   bad_beyond i e = says_bad 3 state_alone _ (BadPair i) i refl e
 
-  pub good_beyond : first 16 (λ j. not (empty j)) ≡ none → PairsJudged (first_bad_beyond n b o) verdict.Good
+  pub good_beyond : first 16 (λ j. not (empty j)) ≡ none → PairsJudged (first_bad_beyond n b o) (Ok tt)
   unfolding first_bad_beyond
   good_beyond e = says_good 3 state_alone _ e
 
 -- ---- judging both
-module _ (n m : ℕ) (T B b o : List ℕ) (sixteen : length o ≡ 16) (is : m ≡ paired n (length o)) where
-  bad_in_parts : first_bad_pair n T B b o ≡ or_else (first_bad_inside m T B b o) (first_bad_beyond m b o)
+module _ (t : Table) (p : Pairs) (m : ℕ) (sixteen : length p.o ≡ 16) (is : m ≡ paired t.count (length p.o)) where
+  bad_in_parts : first_bad_pair t.count t.period t.budget p.b p.o ≡ or_else (first_bad_inside m t.period t.budget p.b p.o) (first_bad_beyond m p.b p.o)
   unfolding first_bad_pair first_bad_inside first_bad_beyond pair_in_range
   bad_in_parts =
-      first_in_parts m 16 (λ i. not (pair_in_range n T B b o i)) (λ i. not (fine T B b o i)) (λ i. not (empty m b o i)) (paired_few n (length o) m sixteen is)
-      (λ i l. let k = (counted n (length o) m sixteen is).within-table in rw (lt-ltb i n (omega arith)))
+      first_in_parts m 16 (λ i. not (pair_in_range t.count t.period t.budget p.b p.o i)) (λ i. not (fine t.period t.budget p.b p.o i)) (λ i. not (empty m p.b p.o i)) (paired_few t.count (length p.o) m sixteen is)
+      (λ i l. let k = (counted t.count (length p.o) m sixteen is).within-table in rw (lt-ltb i t.count (omega arith)))
       (λ i l. rw (lt-ltb i m l))
-      (λ i l h. rw (le-ltb i n ((counted n (length o) m sixteen is).whole i h l), le-ltb i m l))
+      (λ i l h. rw (le-ltb i t.count ((counted t.count (length p.o) m sixteen is).whole i h l), le-ltb i m l))
 
-  module _ (v : Verdict) (first : PairsJudged (first_bad_inside m T B b o) v) where
-    pub state-refused : (r : Refusal) → v ≡ verdict.Refused r → JudgeStateIs n T B b o (verdict.Refused r)
+  module _ (v : Result Unit Refusal) (first : PairsJudged (first_bad_inside m t.period t.budget p.b p.o) v) where
+    pub state-refused : (r : Refusal) → v ≡ Err r → JudgeStateIs t p (Err r)
     state-refused r d = sooner_refused 3 state_alone _ _ v first r d ∙ ap (λ (x : Option ℕ). refusal (ground 3 x ∷ [])) (sym bad_in_parts)
 
-    pub state_later : (next : Verdict) → v ≡ verdict.Good → PairsJudged (first_bad_beyond m b o) next → JudgeStateIs n T B b o next
+    pub state_later : (next : Result Unit Refusal) → v ≡ Ok tt → PairsJudged (first_bad_beyond m p.b p.o) next → JudgeStateIs t p next
     state_later next d f = f ∙ ap (λ (x : Option ℕ). refusal (ground 3 x ∷ [])) (sym (bad_in_parts ∙ left_to_later 3 state_alone _ _ v first d))
+
+-- ---- the table first
+module _ (t : Table) (p : Pairs) (v : Result Unit Refusal) (table : JudgeTableIs t v) where
+  pub table_refused : (r : Refusal) → v ≡ Err r → JudgeIs t p (Err r)
+  table_refused r d = judged_early (table_then_state _ _) v table r d
+
+  pub pairs_decide : (next : Result Unit Refusal) → v ≡ Ok tt → JudgeStateIs t p next → JudgeIs t p next
+  pairs_decide next d f = judged_later (table_then_state _ _) v table next d f

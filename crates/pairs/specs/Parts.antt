@@ -4,8 +4,9 @@ use Rattle.std.proofs.Math.Option.{Option}
 use Rattle.basis.specs.Words.{◌!◌, within, first}
 use Rattle.rules.specs.Numbers.{most_partitions}
 use Rattle.rules.specs.Refusals.{ground, refusal}
+use Rattle.rules.specs.declared.Refusal.{Refusal}
 use Rattle.verdicts.specs.Verdicts.{verdict_as}
-use Rattle.verdicts.specs.declared.Verdict.{Verdict}
+use Rattle.std.specs.declared.result.Result.{Result}
 
 -- how many of n partitions have one of m pairs
 unfoldable pub paired : ℕ → ℕ → ℕ
@@ -20,5 +21,5 @@ unfoldable pub first_bad_beyond : ℕ → List ℕ → List ℕ → Option ℕ
 first_bad_beyond n b o = first most_partitions (λ i. not (ltb i n || (eqb (b ! i) 0 && eqb (o ! i) 0)))
 
 -- refusal 3 with the bad pair that was found, or none
-abbrev pub PairsJudged : Option ℕ → Verdict → Type 0
+abbrev pub PairsJudged : Option ℕ → Result Unit Refusal → Type 0
 PairsJudged bad r = verdict_as r ≡ refusal (ground 3 bad ∷ [])

@@ -9,8 +9,7 @@ ghost use Rattle.pairs.specs.Parts.{first_bad_inside, first_bad_beyond, PairsJud
 ghost use Rattle.pairs.specs.Promises.{PairedIs, JudgeStateIs, JudgeIs};
 
 use ranges::judge_table;
-use rules::Refusal;
-use verdicts::Verdict;
+use rules::{Pairs, Refusal, Table};
 
 // A pair inside the table is within its partition's numbers.
 fn pair_in_range(period: u16, budget: u16, b: u16, o: u16) -> bool
@@ -35,103 +34,75 @@ fn pair_is_zero(b: u16, o: u16) -> bool
     o == 0
 }
 
-// How many of `n` partitions have a pair among `o`. A slice's length is known in the proof, an array's behind a reference is not.
+// How many of `n` partitions have a pair among `o`.
 #[tactic(auto, unfolding(crate::specs::Parts::paired))]
 pub fn paired(n: usize, o: &[u16]) -> usize
     ensures { PairedIs n o.now result }
 {
-    if n > o.len() {
-        return o.len();
-    }
-    n
+    n.min(o.len())
 }
 
-// Refusal 3, of the first `n` pairs, which are inside the table.
-fn judge_inside<'t, 's>(
-    n: usize,
-    period: &'t [u16; 16],
-    budget: &'t [u16; 16],
-    b: &'s [u16; 16],
-    o: &'s [u16; 16],
-) -> Verdict
+// Refusal 3, of the first `n` pairs, which are inside the table. The bound, here and in the next two, is what `paired` gives: a type for it would be opened at each index.
+fn judge_inside(n: usize, t: &Table, p: &Pairs) -> Result<(), Refusal>
     requires { n ≤ 16 }
-    ensures { PairsJudged (first_bad_inside n period.now budget.now b.now o.now) result }
+    ensures { PairsJudged (first_bad_inside n t.now.period t.now.budget p.now.b p.now.o) result }
 {
+    // A loop, as in `ranges::judge_table`: the hook judges these pairs at each tick.
     for i in 0..n {
-        if !pair_in_range(period[i], budget[i], b[i], o[i]) {
-            return Verdict::Refused(Refusal::BadPair(i));
+        if !pair_in_range(t.period[i], t.budget[i], p.b[i], p.o[i]) {
+            return Err(Refusal::BadPair(i));
         }
     }
-    Verdict::Good
+    Ok(())
 }
 
 // A pair as one number, which is 0 where both are.
 fn both(b: u16, o: u16) -> u32
     ensures { Reckoned 131072 (b + o) result }
 {
-    (b as u32) + (o as u32)
+    u32::from(b) + u32::from(o)
 }
 
-// None of the pairs from `n` on has anything. Nothing stops this sum halfway, so that several pairs are added at once.
-fn nothing_beyond<'s>(n: usize, b: &'s [u16; 16], o: &'s [u16; 16]) -> bool
+// None of the pairs from `n` on has anything. Nothing stops this sum halfway, so that several pairs are added at once; by index, since b and o stand apart, as C reads them.
+fn nothing_beyond(n: usize, p: &Pairs) -> bool
     requires { n ≤ 16 }
-    ensures { result ≡ true → first_bad_beyond n b.now o.now ≡ none }
+    ensures { result ≡ true → first_bad_beyond n p.now.b p.now.o ≡ none }
 {
     let mut sum = 0;
     for j in n..16 {
-        sum += both(b[j], o[j]);
+        sum += both(p.b[j], p.o[j]);
     }
     sum == 0
 }
 
 // Refusal 3, of the pairs from `n` on, which are beyond the table.
-fn judge_beyond<'s>(n: usize, b: &'s [u16; 16], o: &'s [u16; 16]) -> Verdict
+fn judge_beyond(n: usize, p: &Pairs) -> Result<(), Refusal>
     requires { n ≤ 16 }
-    ensures { PairsJudged (first_bad_beyond n b.now o.now) result }
+    ensures { PairsJudged (first_bad_beyond n p.now.b p.now.o) result }
 {
-    if nothing_beyond(n, b, o) {
-        return Verdict::Good;
+    if nothing_beyond(n, p) {
+        return Ok(());
     }
-    for j in n..16 {
-        if !pair_is_zero(b[j], o[j]) {
-            return Verdict::Refused(Refusal::BadPair(j));
-        }
+    let bad = (n..16).find(|&j| !pair_is_zero(p.b[j], p.o[j]));
+    match bad {
+        Some(j) => Err(Refusal::BadPair(j)),
+        None => Ok(()),
     }
-    Verdict::Good
 }
 
 // Refusal 3, of all 16 pairs.
-pub fn judge_state<'t, 's>(
-    n: usize,
-    period: &'t [u16; 16],
-    budget: &'t [u16; 16],
-    b: &'s [u16; 16],
-    o: &'s [u16; 16],
-) -> Verdict
-    ensures { JudgeStateIs n period.now budget.now b.now o.now result }
+pub fn judge_state(t: &Table, p: &Pairs) -> Result<(), Refusal>
+    ensures { JudgeStateIs t.now p.now result }
 {
-    let inside = paired(n, o);
-    let first = judge_inside(inside, period, budget, b, o);
-    if let Verdict::Refused(r) = first {
-        return Verdict::Refused(r);
-    }
-    judge_beyond(inside, b, o)
+    let inside = paired(t.count, &p.o);
+    judge_inside(inside, t, p)?;
+    judge_beyond(inside, p)
 }
 
 // Refusals 1 and 3, in this order.
-pub fn judge<'t, 's>(
-    n: usize,
-    period: &'t [u16; 16],
-    budget: &'t [u16; 16],
-    phase: &'t [u16; 16],
-    b: &'s [u16; 16],
-    o: &'s [u16; 16],
-) -> Verdict
-    ensures { JudgeIs n period.now budget.now phase.now b.now o.now result }
+pub fn judge(t: &Table, p: &Pairs) -> Result<(), Refusal>
+    ensures { JudgeIs t.now p.now result }
 {
-    let table = judge_table(n, period, budget, phase);
-    if let Verdict::Refused(r) = table {
-        return Verdict::Refused(r);
-    }
-    judge_state(n, period, budget, b, o)
+    judge_table(t)?;
+    judge_state(t, p)
 }

@@ -6,8 +6,7 @@ ghost use Rattle.basis.specs.Words.{within};
 ghost use Rattle.rules.specs.Numbers.{partition_in_range};
 ghost use Rattle.ranges.specs.Promises.{JudgeTableIs, JudgeIndexIs};
 
-use rules::Refusal;
-use verdicts::Verdict;
+use rules::{Refusal, Table};
 
 // At least `low` and at most `high`.
 fn lies_within(low: u16, high: u16, x: u16) -> bool
@@ -19,6 +18,7 @@ fn lies_within(low: u16, high: u16, x: u16) -> bool
     x <= high
 }
 
+// A partition's fields come one by one, as C has them in the table.
 fn partition_in_range(period: u16, budget: u16, phase: u16) -> bool
     ensures { result ≡ partition_in_range period budget phase }
 {
@@ -32,44 +32,31 @@ fn partition_in_range(period: u16, budget: u16, phase: u16) -> bool
 }
 
 // Refusal 1. A count is judged before the fields.
-pub fn judge_table<'t>(
-    n: usize,
-    period: &'t [u16; 16],
-    budget: &'t [u16; 16],
-    phase: &'t [u16; 16],
-) -> Verdict
-    ensures { JudgeTableIs n period.now budget.now phase.now result }
+pub fn judge_table(t: &Table) -> Result<(), Refusal>
+    ensures { JudgeTableIs t.now result }
 {
-    if n == 0 {
-        return Verdict::Refused(Refusal::BadPartition(0));
+    if t.count == 0 {
+        return Err(Refusal::BadPartition(0));
     }
-    if n > 16 {
-        return Verdict::Refused(Refusal::BadPartition(16));
+    if t.count > 16 {
+        return Err(Refusal::BadPartition(16));
     }
-    for i in 0..n {
-        if !partition_in_range(period[i], budget[i], phase[i]) {
-            return Verdict::Refused(Refusal::BadPartition(i));
+    // A loop, since `find`, here and in `pairs`, cost the hook 241 instructions more at 16 partitions.
+    for i in 0..t.count {
+        if !partition_in_range(t.period[i], t.budget[i], t.phase[i]) {
+            return Err(Refusal::BadPartition(i));
         }
     }
-    Verdict::Good
+    Ok(())
 }
 
 // Refusal 1 once more: a partition asked for that isn't there, after the fields.
-pub fn judge_index<'t>(
-    n: usize,
-    period: &'t [u16; 16],
-    budget: &'t [u16; 16],
-    phase: &'t [u16; 16],
-    h: usize,
-) -> Verdict
-    ensures { JudgeIndexIs n period.now budget.now phase.now h result }
+pub fn judge_index(t: &Table, h: usize) -> Result<(), Refusal>
+    ensures { JudgeIndexIs t.now h result }
 {
-    let table = judge_table(n, period, budget, phase);
-    if let Verdict::Refused(r) = table {
-        return Verdict::Refused(r);
+    judge_table(t)?;
+    if t.count <= h {
+        return Err(Refusal::BadPartition(h));
     }
-    if n <= h {
-        return Verdict::Refused(Refusal::BadPartition(h));
-    }
-    Verdict::Good
+    Ok(())
 }

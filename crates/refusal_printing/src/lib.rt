@@ -8,7 +8,7 @@ ghost use Rattle.file_rules.specs.Printers.{refused_line};
 ghost use Rattle.sending.specs.Writing.{AppendsPart};
 ghost use Rattle.refusal_printing.specs.Promises.{PrintRefusalIs};
 
-use lines::{Line, Written, write_line};
+use lines::{Line, write_line};
 use rules::Refusal;
 use sending::write_whole;
 use std::io;
@@ -20,11 +20,9 @@ pub fn print_refusal<W: Write>(to: &mut W, why: Refusal) -> io::Result<usize>
     ensures bytes { OnOk result (Appends (W.contents to.old) (W.contents to.new) (refused_line (refused_as why))) }
     ensures err { OnErr result (AppendsPart (W.contents to.old) (W.contents to.new) (refused_line (refused_as why))) }
 {
+    // Any line has room in 64 bytes.
     let mut line = [0u8; 64];
-    let written = write_line(Line::Refused(why), &mut line);
-    let Written::Bytes(length) = written else {
-        return Ok(0);
-    };
+    let length = write_line(Line::Refused(why), &mut line).unwrap();
     write_whole(to, &line[..length])?;
     Ok(length)
 }

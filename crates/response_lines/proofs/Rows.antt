@@ -1,14 +1,19 @@
 -- The rank of a task, counted, and its row.
-use Prim.Native.Nat.{ℕ, ◌+◌, ◌≤◌, ◌<◌}
+use Prim.Native.Nat.{ℕ, zero, suc, ◌+◌, ◌≤◌, ◌<◌}
 use mathlib.Core.Path.{◌≡◌, refl, sym, ◌∙◌, ap}
-use mathlib.Core.Bool.{Bool}
+use mathlib.Core.Bool.{Bool, true, false, cond}
 use mathlib.Core.List.{List, [], ◌∷◌}
 use mathlib.Core.Option.{Option, some, none}
-use native.Mathlib.Nat.{le_refl, le_antisymm}
 use native.Mathlib.Omega.{arith}
-use borrow.Author.Tests.{ltb-true, eq-eqb, ne_eqb}
+use borrow.Author.Tests.{ltb-true}
 use lib.Dec.{ltb, eqb}
-use lib.ListN.{length, length-append}
+use lib.ListN.{length, take, length-append}
+use lib.Seq.{take-suc}
+use Rattle.std.proofs.lemmas.List.Elements.{filter-append}
+use Rattle.std.specs.declared.option.Option.TheVariants.{Some}
+use Rattle.std.specs.declared.result.Result.{Result}
+use Rattle.std.specs.declared.result.Result.TheVariants.{Ok, Err}
+use Rattle.std.specs.List.{filter}
 use Rattle.rules.specs.Records.{table_bad, tasks_or_index_bad}
 use Rattle.basis.specs.Words.{◌!◌, has, those, or_else, unless}
 use Rattle.rules.specs.Numbers.{first_bad_task}
@@ -20,69 +25,49 @@ use Rattle.rules.specs.declared.Table.{Table}
 use Rattle.rules.specs.declared.Tasks.{Tasks}
 use Rattle.laws.proofs.Tests.{some_is_none, unless-none}
 use Rattle.laws.proofs.Numbers.{tasks_good}
-use Rattle.laws.proofs.Places.{those-next, those_skip}
 use Rattle.laws.proofs.Refusals.{no_ground}
 use Rattle.verdicts.proofs.Outcomes.{was_refused, was_given}
 use Rattle.responses.specs.Answers.{response_as}
 use Rattle.responses.specs.Promises.{TaskResponseIs}
-use Rattle.responses.specs.declared.Response.{Response}
-use Rattle.responses.specs.declared.Response.TheVariants as response
 use Rattle.lines.specs.Lines.{bytes_of}
+use Rattle.lines.specs.Promises.{PutLineIs}
+use Rattle.lines.specs.declared.Made.{Made}
 use Rattle.lines.specs.declared.Line.TheVariants as line
 use Rattle.response_lines.specs.Coming.{row}
-use Rattle.response_lines.specs.Promises.{PutIs, RowIs}
+use Rattle.response_lines.specs.Promises.{RowIs}
 use Rattle.response_lines.specs.declared.Cursor.TheVariants as cursor
-use Rattle.response_lines.specs.declared.Next.TheVariants as next
-use Rattle.response_lines.specs.declared.Made.{Made}
-use Rattle.response_lines.specs.declared.Made.TheVariants as made
+use Rattle.response_lines.specs.declared.Cursor.{Cursor}
 use Rattle.response_lines.proofs.Puts.{line_refused, line_put}
 
--- ---- the rank of task i, of which the loop has come to task j
-module _ (part : List ℕ) (i : ℕ) where
-  -- a task is of the same partition
-  abbrev own : ℕ → Bool
-  own j = eqb (part ! j) (part ! i)
-
-  pub record RankTo (j rank : ℕ) : Type 0 where
-    pub is : rank ≡ length (those j own)
-    pub short : rank ≤ j
-    pub near : j ≤ i
-
-  pub rank_begins : RankTo 0 0
+-- ---- the rank of task i, counted
+module _ (part : List ℕ) (own : ℕ) where
+  pub counted : (i : ℕ) → i ≤ length part → length (filter (λ p. eqb p own) (take i part)) ≡ length (those i (λ j. eqb (part ! j) own))
   unfolding those
-  rank_begins = record { is = refl; short = le_refl 0; near = omega arith }
-
-  module _ (j rank : ℕ) (here : RankTo j rank) where
-    pub rank_counts : j < i → part ! j ≡ part ! i → (more : ℕ) → more ≡ rank + 1 → RankTo (j + 1) more
-    rank_counts l same more one =
-        let short = here.short in
-        record {
-          is = one ∙ ap (λ n. n + 1) here.is ∙ sym (length-append (those j own) (j ∷ [])) ∙ sym (ap length (those-next j own (eq-eqb _ _ same)));
-          short = omega arith;
-          near = omega arith;
-        }
-
-    pub rank_skips : j < i → (part ! j ≡ part ! i → ⊥) → (still : ℕ) → still ≡ rank → RankTo (j + 1) still
-    rank_skips l other still kept =
-        let short = here.short in
-        record { is = kept ∙ here.is ∙ sym (ap length (those_skip j own (ne_eqb _ _ other))); short = omega arith; near = omega arith }
-
-    pub rank_ends : i ≤ j → rank ≡ rank_of part i
-    unfolding rank_of
-    rank_ends l = here.is ∙ ap (λ n. length (those n own)) (le_antisymm here.near l)
+  counted zero l = refl
+  counted (suc i) l =
+      ap (λ (ps : List ℕ). length (filter (λ p. eqb p own) ps)) (take-suc part i 0 (omega arith))
+      ∙ ap length (filter-append (λ p. eqb p own) (take i part) (part ! i ∷ []))
+      ∙ length-append (filter (λ p. eqb p own) (take i part)) _
+      ∙ ap (λ n. n + length (filter (λ p. eqb p own) (part ! i ∷ []))) (counted i (omega arith))
+      ∙ ap (λ n. length (those i (λ j. eqb (part ! j) own)) + n) (one (eqb (part ! i) own))
+      ∙ sym (length-append (those i (λ j. eqb (part ! j) own)) _)
+    where
+      one : (b : Bool) → length (cond b (part ! i ∷ []) []) ≡ length (cond b (i ∷ []) [])
+      one true = refl
+      one false = refl
 
 -- ---- the row of task i
-module _ (t : Table) (k : Tasks) (i : ℕ) (x : Response) (e : TaskResponseIs t k i x) where
+module _ (t : Table) (k : Tasks) (i : ℕ) (x : Result ℕ Refusal) (e : TaskResponseIs t k i x) where
   abbrev first : Option Refused
   first = refusal (table_bad t ∷ tasks_or_index_bad t k i ∷ [])
 
   abbrev ticks : ℕ
   ticks = response_of_task t.period t.budget k.count k.partition k.gap k.cost i
 
-  pub row-refused : (q : Refusal) → x ≡ response.Refused q → (buffer : List ℕ) → RowIs t k i buffer (made.Refused q) buffer
-  row-refused q d buffer = line_refused t k (row t k i) buffer q (was_refused ticks first (refused_as q) (sym (ap response_as d) ∙ e))
+  pub row_refused : (q : Refusal) → x ≡ Err q → (buffer : List ℕ) → RowIs t k i buffer (Err q) buffer
+  row_refused q d buffer = line_refused t k (row t k i) buffer q (was_refused ticks first (refused_as q) (sym (ap response_as d) ∙ e))
 
-  module _ (n : ℕ) (d : x ≡ response.Ticks n) where
+  module _ (n : ℕ) (d : x ≡ Ok n) where
     given : (first ≡ none) × (n ≡ ticks)
     given = was_given ticks first n (sym (ap response_as d) ∙ e)
 
@@ -98,8 +83,8 @@ module _ (t : Table) (k : Tasks) (i : ℕ) (x : Response) (e : TaskResponseIs t 
             let there = ltb-true i k.count (unless-none (ltb i k.count) i h) in
             omega arith
 
-    pub row_put : (rank : ℕ) → rank ≡ rank_of k.partition i → (buffer : List ℕ) (r : Made) (last : List ℕ)
-        → PutIs (line.Response (k.partition ! i) rank n) (next.Line (cursor.Task (i + 1))) buffer r last → RowIs t k i buffer r last
+    pub row_put : (rank : ℕ) → rank ≡ rank_of k.partition i → (buffer : List ℕ) (r : Result (Made Cursor) Refusal) (last : List ℕ)
+        → PutLineIs (line.Response (k.partition ! i) rank n) (Some (cursor.Task (i + 1))) buffer r last → RowIs t k i buffer r last
     unfolding bytes_of
     row_put rank same buffer = line_put t k (row t k i) buffer given.0 (line.Response (k.partition ! i) rank n) bytes
       where

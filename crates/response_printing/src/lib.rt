@@ -10,12 +10,11 @@ ghost use Rattle.sending.specs.Writing.{AppendsPart};
 ghost use Rattle.response_printing.specs.Promises.{RowsAre, PrintResponseIs};
 
 use refusal_printing::print_refusal;
-use response_lines::{Cursor, Made, Next, response_line};
+use response_lines::{Cursor, response_line};
 use rules::{Table, Tasks};
 use sending::write_whole;
 use std::io;
 use std::io::Write;
-use verdicts::Verdict;
 use whole_file::judge_file;
 
 // Row by row into a buffer that holds them all: at most 66 lines.
@@ -23,19 +22,15 @@ fn rows_into(t: Table, tasks: Tasks, out: &mut [u8]) -> usize
     requires { (length out.old ≡ 8192) × (RowAt t tasks Header) }
     ensures { RowsAre t tasks out.new result }
 {
-    let mut cursor = Cursor::Header;
+    let mut next = Some(Cursor::Header);
     let mut used = 0;
-    loop {
-        let made = response_line(t, tasks, cursor, &mut out[used..]);
-        let Made::Line(length, next) = made else {
-            return used;
-        };
-        used += length;
-        let Next::Line(after) = next else {
-            return used;
-        };
-        cursor = after;
+    while let Some(cursor) = next {
+        // Sound tables and room for any line: no row is refused.
+        let made = response_line(t, tasks, cursor, &mut out[used..]).unwrap();
+        used += made.length;
+        next = made.next;
     }
+    used
 }
 
 // The response times of a file's tasks, refused or not. An error is the writer's own, or WriteZero where it takes no more; then it holds a first part of the output.
@@ -44,15 +39,13 @@ pub fn print_response<W: Write>(to: &mut W, file: &[u8]) -> io::Result<usize>
     ensures bytes { OnOk result (Appends (W.contents to.old) (W.contents to.new) (response_output file.now)) }
     ensures err { OnErr result (AppendsPart (W.contents to.old) (W.contents to.new) (response_output file.now)) }
 {
-    let held = judge_file(file);
-    let verdict = held.verdict;
-    if let Verdict::Refused(why) = verdict {
-        return print_refusal(to, why);
-    }
-    let table = held.table;
-    let tasks = held.tasks;
+    // Not `?`: a refused file is no error, its line is the output.
+    let held = match judge_file(file) {
+        Ok(held) => held,
+        Err(why) => return print_refusal(to, why),
+    };
     let mut out = [0u8; 8192];
-    let used = rows_into(table, tasks, &mut out);
+    let used = rows_into(held.table, held.tasks, &mut out);
     write_whole(to, &out[..used])?;
     Ok(used)
 }

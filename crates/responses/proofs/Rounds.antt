@@ -1,6 +1,6 @@
 -- The sums of a round, in 64 bits.
-use Prim.Native.Nat.{ℕ, ◌+◌, ◌-◌, ◌*◌, ◌/◌, ◌≤◌, ◌<◌}
-use mathlib.Core.Path.{◌≡◌, refl, sym, ap}
+use Prim.Native.Nat.{ℕ, ◌+◌, ◌*◌, ◌≤◌, ◌<◌}
+use mathlib.Core.Path.{◌≡◌, sym, ◌∙◌, ap}
 use mathlib.Core.Bool.{cond}
 use native.Mathlib.Omega.{arith}
 use borrow.Author.Tests.{eq-eqb, ne_eqb}
@@ -9,16 +9,19 @@ use mir.Syntax.{w64}
 use mir.Val.{Fits}
 use Rattle.basis.specs.Words.{ceil}
 use Rattle.basis.specs.Reckoned.{Reckoned}
-use Rattle.laws.proofs.Ceil.{ceil_most, ceil-times, ceil_by_zero}
+use Rattle.std.specs.Int.{div_ceil}
+use Rattle.laws.proofs.Ceil.{div_ceil_is, ceil_most, ceil-times, ceil_by_zero}
 
 -- ---- a quotient rounded up
 module _ (x y : ℕ) where
   pub by_nothing : y ≡ 0 → Reckoned (x + 1) (ceil x y) 0
   by_nothing none_there = record { is = sym (rw none_there (ceil_by_zero x)); small = omega arith }
 
-  pub quotient : Reckoned (x + 1) (ceil x y) ((x + (y - 1)) / y)
-  unfolding ceil
-  quotient = let most = ceil_most x y in record { is = refl; small = omega arith }
+  pub quotient : (y ≡ 0 → ⊥) → (by r : ℕ) → by ≡ y → r ≡ div_ceil x by → Reckoned (x + 1) (ceil x y) r
+  quotient some_there by r same is = record { is = right; small = let most = ceil_most x y in let here = right in omega (arith, most, here) }
+    where
+      right : r ≡ ceil x y
+      right = is ∙ ap (div_ceil x) same ∙ div_ceil_is x y (omega arith)
 
 -- ---- one task above
 module _ (p e window : ℕ) where

@@ -11,55 +11,48 @@ ghost use Rattle.responses.specs.Promises.{TaskResponseIs};
 use ranges::judge_table;
 use rules::{Refusal, Table, Task, Tasks};
 use tasks::judge_task;
-use verdicts::Verdict;
-
-// The ticks that a task takes at worst, 0 for late.
-#[derive(Clone, Copy)]
-pub enum Response {
-    Ticks(u64),
-    Refused(Refusal),
-}
 
 // The quotient rounded up; by 0 it is 0.
+#[tactic(auto, using(crate::proofs::Rounds::by_nothing, crate::proofs::Rounds::quotient))]
 fn rounded_up(x: u64, y: u16) -> u64
-    requires { x < 549755813888 }
     ensures { Reckoned (x + 1) (ceil x y) result }
 {
-    let by = y as u64;
-    if by == 0 {
+    if y == 0 {
         return 0;
     }
-    (x + (by - 1)) / by
+    x.div_ceil(u64::from(y))
 }
 
-// What a task of partition `of` asks for within a window, where that is partition `h`: ceil(window/p)·e.
-fn asked(of: u16, h: u16, gap: u16, cost: u16, window: u64) -> u64
-    requires { window < 65536 }
-    ensures { Reckoned 4294967296 (cond (eqb of h) (ceil window gap * cost) 0) result }
+// Task `i` of the table. That a place is one of the 64 is a clause here and below: a type for it would be opened at each index.
+fn task(k: &Tasks, i: usize) -> Task
+    requires { i < 64 }
+    ensures { result ≡ record { partition = k.now.partition ! i; gap = k.now.gap ! i; cost = k.now.cost ! i } }
 {
-    if of != h {
+    Task {
+        partition: k.partition[i],
+        gap: k.gap[i],
+        cost: k.cost[i],
+    }
+}
+
+// What a task asks for within a window, where it is of partition `h`: ceil(window/p)·e.
+fn asked(x: Task, h: u16, window: u64) -> u64
+    requires { window < 65536 }
+    ensures { Reckoned 4294967296 (cond (eqb x.partition h) (ceil window x.gap * x.cost) 0) result }
+{
+    if x.partition != h {
         return 0;
     }
-    rounded_up(window, gap) * (cost as u64)
+    rounded_up(window, x.gap) * u64::from(x.cost)
 }
 
 // What the tasks of partition `h` before task `i` ask for within a window.
-fn asked_above<'k>(
-    partition: &'k [u16; 64],
-    gap: &'k [u16; 64],
-    cost: &'k [u16; 64],
-    h: u16,
-    i: usize,
-    window: u64,
-) -> u64
+fn asked_above(k: &Tasks, h: u16, i: usize, window: u64) -> u64
     requires { (i ≤ 64) × (window < 65536) }
-    ensures { Reckoned 274877906945 (sum_below i (λ j. cond (eqb (partition.now ! j) h) (ceil window (gap.now ! j) * cost.now ! j) 0)) result }
+    ensures { Reckoned 274877906945 (sum_below i (λ j. cond (eqb (k.now.partition ! j) h) (ceil window (k.now.gap ! j) * k.now.cost ! j) 0)) result }
 {
-    let mut sum = 0;
-    for j in 0..i {
-        sum += asked(partition[j], h, gap[j], cost[j], window);
-    }
-    sum
+    // Over places, since the table has an array for each field, as C reads it.
+    (0..i).map(|j| asked(task(k, j), h, window)).sum()
 }
 
 // How long a load takes that is served by a budget in each period, the last part of it late: L + ceil(L/B)·(T − B).
@@ -70,25 +63,17 @@ fn served(load: u64, budget: u16, away: u64) -> u64
     load + rounded_up(load, budget) * away
 }
 
-// From r = e, until r stands still or T − B + r exceeds p: T − B + r, or 0 for late.
-fn settled<'k>(
-    partition: &'k [u16; 64],
-    gap: &'k [u16; 64],
-    cost: &'k [u16; 64],
-    i: usize,
-    x: Task,
-    period: u16,
-    budget: u16,
-) -> u64
+// From r = e, until r stands still or T − B + r exceeds p: T − B + r, or 0 for late, which is how 01 has the answer.
+fn settled(k: &Tasks, i: usize, x: Task, period: u16, budget: u16) -> u64
     requires { (i ≤ 64) × (budget ≤ period) }
-    ensures { result ≡ ticks_or_late period budget (settled_response period budget (own_tasks i partition.now gap.now cost.now x.partition) (record { p = x.gap; e = x.cost })) }
+    ensures { result ≡ ticks_or_late period budget (settled_response period budget (own_tasks i k.now.partition k.now.gap k.now.cost x.partition) (record { p = x.gap; e = x.cost })) }
 {
-    let away = (period - budget) as u64;
-    let limit = x.gap as u64;
-    let own = x.cost as u64;
+    let away = u64::from(period - budget);
+    let limit = u64::from(x.gap);
+    let own = u64::from(x.cost);
     let mut r = own;
     while away + r <= limit {
-        let above = asked_above(partition, gap, cost, x.partition, i, away + r);
+        let above = asked_above(k, x.partition, i, away + r);
         let next = served(own + above, budget, away);
         if next == r {
             return away + r;
@@ -98,46 +83,23 @@ fn settled<'k>(
     0
 }
 
-// The response of task `i`, over arrays; the tasks after it don't count.
-fn response_of<'t, 'k>(
-    period: &'t [u16; 16],
-    budget: &'t [u16; 16],
-    partition: &'k [u16; 64],
-    gap: &'k [u16; 64],
-    cost: &'k [u16; 64],
-    i: usize,
-) -> u64
-    requires { Ready period.now budget.now partition.now i }
-    ensures { result ≡ response_of_task period.now budget.now (suc i) partition.now gap.now cost.now i }
+// The response of task `i`; the tasks after it don't count.
+#[tactic(auto, using(laws::proofs::TaskResponse::response_in_place))]
+fn response_of(t: &Table, k: &Tasks, i: usize) -> u64
+    requires { Ready t.now.period t.now.budget k.now.partition i }
+    ensures { result ≡ response_of_task t.now.period t.now.budget (suc i) k.now.partition k.now.gap k.now.cost i }
 {
-    let x = Task {
-        partition: partition[i],
-        gap: gap[i],
-        cost: cost[i],
-    };
-    let h = x.partition as usize;
-    settled(partition, gap, cost, i, x, period[h], budget[h])
+    let x = task(k, i);
+    let h = usize::from(x.partition);
+    settled(k, i, x, t.period[h], t.budget[h])
 }
 
-// The response of task `i` beside its partition table. Refusals 1 and 9.
-pub fn task_response(t: Table, tasks: Tasks, i: usize) -> Response
+// The response of task `i` beside its partition table, 0 for late. Refusals 1 and 9.
+#[tactic(auto, using(crate::proofs::Calls::refused_table, crate::proofs::Calls::refused_task, crate::proofs::Calls::ready, crate::proofs::Calls::responds))]
+pub fn task_response(t: Table, tasks: Tasks, i: usize) -> Result<u64, Refusal>
     ensures { TaskResponseIs t tasks i result }
 {
-    let n = t.count;
-    let table = judge_table(n, &t.period, &t.budget, &t.phase);
-    if let Verdict::Refused(r) = table {
-        return Response::Refused(r);
-    }
-    let task = judge_task(n, tasks.count, &tasks.partition, &tasks.gap, &tasks.cost, i);
-    if let Verdict::Refused(r) = task {
-        return Response::Refused(r);
-    }
-    Response::Ticks(response_of(
-        &t.period,
-        &t.budget,
-        &tasks.partition,
-        &tasks.gap,
-        &tasks.cost,
-        i,
-    ))
+    judge_table(&t)?;
+    judge_task(t.count, &tasks, i)?;
+    Ok(response_of(&t, &tasks, i))
 }

@@ -1,7 +1,8 @@
 -- 01, "Fresh start".
 use Rattle.std.specs.Prelude.{ℕ, cond, List, eqb, replicate}
 use Rattle.basis.specs.Words.{◌!◌, filled}
-use Rattle.rules.specs.Numbers.{Pairs, most_partitions}
+use Rattle.rules.specs.Numbers.{most_partitions}
+use Rattle.rules.specs.declared.Pairs.{Pairs}
 
 -- 16 places, all 0
 abbrev pub zeros : List ℕ

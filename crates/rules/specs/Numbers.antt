@@ -54,8 +54,3 @@ pub record StateInRange (n : ℕ) (T B b o : List ℕ) : Type 0 where
   pub budgets : length b ≡ most_partitions
   pub offsets : length o ≡ most_partitions
   pub pairs : first_bad_pair n T B b o ≡ none
-
--- the pairs of a state, as two lists: what a fresh start, a tick and a release give
-pub record Pairs : Type 0 where
-  pub b : List ℕ
-  pub o : List ℕ

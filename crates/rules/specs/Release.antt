@@ -1,6 +1,6 @@
 -- 01, "Release".
 use Rattle.std.specs.Prelude.{ℕ, Bool, ◌&&◌, List, ltb, set}
-use Rattle.rules.specs.Numbers.{Pairs}
+use Rattle.rules.specs.declared.Pairs.{Pairs}
 use Rattle.rules.specs.BusyLength.{active}
 
 -- "An active partition's b becomes 0. A release hands back the whole state with one number changed."

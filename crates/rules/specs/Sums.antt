@@ -2,7 +2,7 @@
 use Rattle.std.specs.Prelude.{ℕ, refl, List, [], ◌∷◌, map, replicate}
 use Rattle.std.proofs.Math.Option.{Option, some, none}
 use Rattle.basis.specs.Rows.{Row, ◌is◌, Hold, number, answer}
-use Rattle.rules.specs.Numbers.{Pairs}
+use Rattle.rules.specs.declared.Pairs.{Pairs}
 use Rattle.rules.specs.Admission.{response_within}
 use Rattle.rules.specs.FreshStart.{fresh_start}
 use Rattle.rules.specs.BusyLength.{busy_start, busy_sum, deadline}

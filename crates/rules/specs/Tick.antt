@@ -1,7 +1,7 @@
 -- 01, "Tick": two steps, so that what is left just before a replenishment can be spoken of.
 use Rattle.std.specs.Prelude.{ℕ, ◌-◌, Bool, cond, List, eqb, set}
 use Rattle.basis.specs.Words.{◌!◌, filled, has}
-use Rattle.rules.specs.Numbers.{Pairs}
+use Rattle.rules.specs.declared.Pairs.{Pairs}
 use Rattle.rules.specs.Candidates.{candidates, idle, inversion}
 
 -- "A picked partition loses one of b.": idle is no partition

@@ -11,6 +11,7 @@ pub struct Part {
 }
 
 // The partition table. Index 0 has the highest rank. Entries from `count` on are no part of it.
+// An array for each field, here, in `Pairs` and in `Tasks`, since C has them so (include/nandoquip.h).
 #[repr(C)]
 #[derive(Clone, Copy)]
 pub struct Table {
@@ -18,6 +19,14 @@ pub struct Table {
     pub budget: [u16; 16],
     pub phase: [u16; 16],
     pub count: usize,
+}
+
+// The sixteen pairs: what is left of each budget, and the ticks until it comes again. Pairs beyond the table are 0, 0.
+#[repr(C)]
+#[derive(Clone, Copy)]
+pub struct Pairs {
+    pub b: [u16; 16],
+    pub o: [u16; 16],
 }
 
 // A task: the partition that it runs in, its shortest gap p and its cost e, in ticks.

@@ -1,19 +1,20 @@
--- What each public function of this crate says, and promises of its answer r, the state after it, and lent memory.
+-- What each public function of this crate says, and promises of its answer r to a state s, and of lent memory.
 use Rattle.std.specs.Prelude.{ℕ, ◌≡◌, List, [], ◌∷◌, length}
 use Rattle.std.proofs.Math.Option.{Option, some, none}
+use Rattle.std.specs.declared.result.Result.{Result}
+use Rattle.std.specs.declared.result.Result.TheVariants.{Ok, Err}
 use Rattle.rules.specs.Records.{table_bad}
 use Rattle.scheduler.specs.States.{state_bad, pairs, decision_of, tick_of}
 use Rattle.basis.specs.Words.{onto}
-use Rattle.rules.specs.Numbers.{Pairs}
+use Rattle.rules.specs.declared.Pairs.{Pairs}
 use Rattle.rules.specs.Run.{Ran, run}
-use Rattle.rules.specs.Refusals.{Refused, short_buffer, refusal}
+use Rattle.rules.specs.Refusals.{Refused, refused_as, short_buffer, refusal}
+use Rattle.rules.specs.declared.Refusal.{Refusal}
 use Rattle.rules.specs.declared.Table.{Table}
 use Rattle.verdicts.specs.Outcome.{Outcome, refused, gives}
-use Rattle.verdicts.specs.Verdicts.{verdict_as}
-use Rattle.draw.specs.Promises.{decision_as, ChooseIs}
+use Rattle.draw.specs.Promises.{ChooseIs}
 use Rattle.ticks.specs.Promises.{PassTickIs}
 use Rattle.scheduler.specs.declared.State.{State}
-use Rattle.scheduler.specs.declared.Changed.{Changed}
 use Rattle.runs.specs.declared.Stepped.{Stepped}
 
 -- ---- answers
@@ -22,8 +23,10 @@ pub record Step : Type 0 where
   pub after : Pairs
   pub says : Outcome ℕ
 
-abbrev pub stepped_as : Stepped → Step
-stepped_as r = record { after = pairs r.state; says = decision_as r.decision }
+-- after a refusal the state is the one that was given
+abbrev pub stepped_as : State → Result Stepped Refusal → Step
+stepped_as s (Ok r) = record { after = pairs r.state; says = gives r.pick }
+stepped_as s (Err r) = record { after = pairs s; says = refused (refused_as r) }
 
 unfoldable pub stepped : Option Refused → Pairs → Pairs → ℕ → Step
 stepped none before after pick = record { after = after; says = gives pick }
@@ -35,8 +38,9 @@ pub record Runs : Type 0 where
   pub refused : Option Refused
   pub buffer : List ℕ
 
-abbrev pub ran_as : Changed → List ℕ → Runs
-ran_as r buffer = record { after = pairs r.state; refused = verdict_as r.verdict; buffer = buffer }
+abbrev pub ran_as : State → Result State Refusal → List ℕ → Runs
+ran_as s (Ok after) buffer = record { after = pairs after; refused = none; buffer = buffer }
+ran_as s (Err r) buffer = record { after = pairs s; refused = some (refused_as r); buffer = buffer }
 
 -- "picks go to a lent byte buffer"; "Bytes past the last pick stay."; "Nothing is written to lent memory on a refusal"
 unfoldable pub runs : Option Refused → Pairs → List ℕ → Ran → Runs
@@ -52,8 +56,8 @@ module _ (t : Table) (s : State) where
       (tick_of t s (decision_of t s word))
       (decision_of t s word)
 
-  abbrev pub StepIs : ℕ → Stepped → Type 0
-  StepIs word r = stepped_as r ≡ step_says word
+  abbrev pub StepIs : ℕ → Result Stepped Refusal → Type 0
+  StepIs word r = stepped_as s r ≡ step_says word
 
   -- a run over the words into the buffer, which is `last` after it: refusals 1, 3 and 7
   abbrev pub run_says : List ℕ → List ℕ → Runs
@@ -61,15 +65,15 @@ module _ (t : Table) (s : State) where
       runs (refusal (table_bad t ∷ state_bad t s ∷ short_buffer (length words) (length buffer) ∷ [])) (pairs s) buffer
       (run t.count t.period t.budget (pairs s) words)
 
-  abbrev pub RunIs : List ℕ → List ℕ → Changed → List ℕ → Type 0
-  RunIs words buffer r last = ran_as r last ≡ run_says words buffer
+  abbrev pub RunIs : List ℕ → List ℕ → Result State Refusal → List ℕ → Type 0
+  RunIs words buffer r last = ran_as s r last ≡ run_says words buffer
 
--- what a decision and its tick on lent pairs give: the pick r, and the pairs `bs` and `os` after it
-pub record DrawnIs (n : ℕ) (T B b o : List ℕ) (word r : ℕ) (bs os : List ℕ) : Type 0 where
-  pub choice : ChooseIs n T B b o word r
-  pub passed : PassTickIs n T B b o r bs os
+-- what a decision and its tick on lent pairs p give: the pick r, and the pairs `after` it
+pub record DrawnIs (t : Table) (p : Pairs) (word r : ℕ) (after : Pairs) : Type 0 where
+  pub choice : ChooseIs t p word r
+  pub passed : PassTickIs t p r after
 
 -- what the loop of a run gives
-pub record Filled (n : ℕ) (T B : List ℕ) (s : State) (words buffer : List ℕ) (r : State) (last : List ℕ) : Type 0 where
-  pub after : pairs r ≡ (run n T B (pairs s) words).after
-  pub picks : last ≡ onto (run n T B (pairs s) words).picks buffer
+pub record Filled (t : Table) (s : State) (words buffer : List ℕ) (r : State) (last : List ℕ) : Type 0 where
+  pub after : pairs r ≡ (run t.count t.period t.budget (pairs s) words).after
+  pub picks : last ≡ onto (run t.count t.period t.budget (pairs s) words).picks buffer

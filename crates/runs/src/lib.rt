@@ -5,94 +5,59 @@ ghost use Rattle.std.specs.Prelude.{◌≤◌};
 ghost use Rattle.std.proofs.Math.ListN as Seq;
 ghost use Rattle.runs.specs.Promises.{DrawnIs, StepIs, RunIs, Filled};
 
-use draw::{Decision, choose};
+use draw::choose;
 use pairs::judge;
-use rules::{Refusal, Table};
-use scheduler::{Changed, State};
+use rules::{Pairs, Refusal, Table};
+use scheduler::State;
 use ticks::pass_tick;
-use verdicts::Verdict;
 
 // The state after a step, and its pick.
 #[derive(Clone, Copy)]
 pub struct Stepped {
     pub state: State,
-    pub decision: Decision,
+    pub pick: u8,
 }
 
 // One decision by the word and its tick, on lent pairs.
-fn drawn<'t>(
-    n: usize,
-    period: &'t [u16; 16],
-    budget: &'t [u16; 16],
-    b: &mut [u16; 16],
-    o: &mut [u16; 16],
-    word: u32,
-) -> u8
-    ensures { DrawnIs n period.now budget.now b.old o.old word result b.new o.new }
+fn drawn(t: &Table, p: &mut Pairs, word: u32) -> u8
+    ensures { DrawnIs t.now p.old word result p.new }
 {
-    let pick = choose(n, period, budget, b, o, word);
-    pass_tick(n, period, budget, b, o, pick as usize);
+    let pick = choose(t, p, word);
+    pass_tick(t, p, usize::from(pick));
     pick
 }
 
 // One decision and its tick, from a word, in one search. Refusals 1 and 3.
-pub fn step(state: State, t: Table, word: u32) -> Stepped
+#[tactic(auto, using(crate::proofs::Calls::step_calls))]
+pub fn step(mut state: State, t: Table, word: u32) -> Result<Stepped, Refusal>
     ensures { StepIs t state word result }
 {
-    let judged = judge(t.count, &t.period, &t.budget, &t.phase, &state.b, &state.o);
-    if let Verdict::Refused(r) = judged {
-        return Stepped {
-            state,
-            decision: Decision::Refused(r),
-        };
-    }
-    let mut b = state.b;
-    let mut o = state.o;
-    let pick = drawn(t.count, &t.period, &t.budget, &mut b, &mut o, word);
-    Stepped {
-        state: State { b, o },
-        decision: Decision::Pick(pick),
-    }
+    judge(&t, &state.pairs)?;
+    let pick = drawn(&t, &mut state.pairs, word);
+    Ok(Stepped { state, pick })
 }
 
-// A decision and a tick for each word, and the picks into the buffer.
-fn ran<'t>(
-    start: State,
-    n: usize,
-    period: &'t [u16; 16],
-    budget: &'t [u16; 16],
-    words: &[u32],
-    picks: &mut [u8],
-) -> State
-    requires { (n ≤ 16) × (Seq.length words.now ≤ Seq.length picks.old) }
-    ensures { Filled n period.now budget.now start words.now picks.old result picks.new }
+// A decision and a tick for each word, and the picks into the buffer. The count's bound is a clause, as in `busy`: the table has been judged.
+#[tactic(auto, using(crate::proofs::Looped::run_begins, crate::proofs::Looped::run_goes_on, crate::proofs::Looped::run_ends))]
+fn ran(mut state: State, t: &Table, words: &[u32], picks: &mut [u8]) -> State
+    requires { (t.now.count ≤ 16) × (Seq.length words.now ≤ Seq.length picks.old) }
+    ensures { Filled t.now state words.now picks.old result picks.new }
 {
-    let mut b = start.b;
-    let mut o = start.o;
-    for i in 0..words.len() {
-        picks[i] = drawn(n, period, budget, &mut b, &mut o, words[i]);
+    // Not `picks.iter_mut().zip(words)`: of what is written through an adapter nothing is known after it.
+    for (i, word) in words.iter().enumerate() {
+        picks[i] = drawn(t, &mut state.pairs, *word);
     }
-    State { b, o }
+    state
 }
 
 // A run over lent words into a lent buffer, a byte for each pick. Refusals 1, 3 and 7.
-pub fn run(state: State, t: Table, words: &[u32], picks: &mut [u8]) -> Changed
+#[tactic(auto, using(crate::proofs::Calls::run_calls))]
+pub fn run(state: State, t: Table, words: &[u32], picks: &mut [u8]) -> Result<State, Refusal>
     ensures { RunIs t state words.now picks.old result picks.new }
 {
-    if let Verdict::Refused(r) = state.judged(t) {
-        return Changed {
-            state,
-            verdict: Verdict::Refused(r),
-        };
-    }
+    state.judged(t)?;
     if picks.len() < words.len() {
-        return Changed {
-            state,
-            verdict: Verdict::Refused(Refusal::ShortBuffer(words.len())),
-        };
+        return Err(Refusal::ShortBuffer(words.len()));
     }
-    Changed {
-        state: ran(state, t.count, &t.period, &t.budget, words, picks),
-        verdict: Verdict::Good,
-    }
+    Ok(ran(state, &t, words, picks))
 }

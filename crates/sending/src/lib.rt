@@ -1,4 +1,4 @@
-// Bytes, written to a writer.
+// Bytes, written to a writer. std's `write_all` says nothing of what an error leaves, and io's is for a descriptor, in a library that crates.txt can't list.
 #![tactic(auto)]
 
 ghost use Rattle.std.specs.Prelude.{OnErr, OnOk};

@@ -1,21 +1,16 @@
 -- The answers of this crate's functions, as 01 has them.
 use Rattle.std.specs.Prelude.{ℕ}
-use Rattle.std.proofs.Math.Option.{Option, some, none}
-use Rattle.rules.specs.Refusals.{refused_as}
-use Rattle.verdicts.specs.Outcome.{Outcome, refused, gives}
-use Rattle.standing.specs.declared.Test.{Test}
-use Rattle.standing.specs.declared.Test.TheVariants as test
-use Rattle.standing.specs.declared.Length.{Length}
-use Rattle.standing.specs.declared.Length.TheVariants as lasting
+use Rattle.std.proofs.Math.Option.{Option}
+use Rattle.std.specs.declared.option.Option.{Option as Found}
+use Rattle.std.specs.declared.result.Result.{Result}
+use Rattle.basis.specs.Options.{option_as}
+use Rattle.rules.specs.declared.Refusal.{Refusal}
+use Rattle.verdicts.specs.Outcome.{Outcome, outcome_as}
 
 -- a test of all partitions: none fails, or the first that does; or refused
-abbrev pub test_as : Test → Outcome (Option ℕ)
-test_as test.Passes = gives none
-test_as (test.Fails h) = gives (some h)
-test_as (test.Refused r) = refused (refused_as r)
+abbrev pub test_as : Result (Found ℕ) Refusal → Outcome (Option ℕ)
+test_as = outcome_as option_as
 
 -- a length: so many ticks, or none within the deadline; or refused
-abbrev pub length_as : Length → Outcome (Option ℕ)
-length_as (lasting.Within W) = gives (some W)
-length_as lasting.Over = gives none
-length_as (lasting.Refused r) = refused (refused_as r)
+abbrev pub length_as : Result (Found ℕ) Refusal → Outcome (Option ℕ)
+length_as = outcome_as option_as

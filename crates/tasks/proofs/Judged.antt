@@ -2,7 +2,6 @@
 use Prim.Native.Nat.{ℕ, ◌≤◌, ◌<◌}
 use mathlib.Core.Path.{◌≡◌, refl, sym, ◌∙◌}
 use mathlib.Core.Bool.{Bool, false, not}
-use mathlib.Core.List.{List}
 use mathlib.Core.Option.{some, none}
 use native.Mathlib.Omega.{arith}
 use borrow.Author.Tests.{le-leb, lt-ltb, le-ltb}
@@ -10,11 +9,12 @@ use lib.Dec.{leb}
 use Rattle.basis.specs.Words.{◌!◌, within, first}
 use Rattle.rules.specs.Numbers.{task_in_range, first_bad_task, TasksInRange}
 use Rattle.rules.specs.declared.Refusal.{Refusal}
+use Rattle.rules.specs.declared.Tasks.{Tasks}
 use Rattle.rules.specs.declared.Refusal.TheVariants.{BadTask}
 use Rattle.laws.proofs.Tests.{is_within}
 use Rattle.laws.proofs.Refusals.{tasks_alone}
-use Rattle.verdicts.specs.declared.Verdict.{Verdict}
-use Rattle.verdicts.specs.declared.Verdict.TheVariants as verdict
+use Rattle.std.specs.declared.result.Result.{Result}
+use Rattle.std.specs.declared.result.Result.TheVariants.{Ok, Err}
 use Rattle.verdicts.proofs.Verdicts.{says_bad, says_good, judged_fields, judged_absent, judged_there, asked_good}
 use Rattle.tasks.specs.Promises.{JudgeTasksIs, JudgeTaskIs}
 
@@ -41,41 +41,41 @@ module _ (n partition p e : ℕ) where
       cost_decides costs = sym (by_cost ∙ rw (le-leb 1 e (omega arith)))
 
 -- ---- all of them
-module _ (n m : ℕ) (part p e : List ℕ) where
+module _ (n : ℕ) (k : Tasks) where
   -- the test of one of them
   abbrev pub task : ℕ → Bool
-  task i = task_in_range n (part ! i) (p ! i) (e ! i)
+  task i = task_in_range n (k.partition ! i) (k.gap ! i) (k.cost ! i)
 
-  pub too_many_tasks : 64 < m → JudgeTasksIs n m part p e (verdict.Refused (BadTask 64))
+  pub too_many_tasks : 64 < k.count → JudgeTasksIs n k (Err (BadTask 64))
   unfolding first_bad_task
-  too_many_tasks l = says_bad 9 tasks_alone _ (BadTask 64) 64 refl (rw (lt-ltb 64 m l))
+  too_many_tasks l = says_bad 9 tasks_alone _ (BadTask 64) 64 refl (rw (lt-ltb 64 k.count l))
 
-  module _ (few : m ≤ 64) where
-    by_fields : first_bad_task n m part p e ≡ first m (λ i. not (task i))
+  module _ (few : k.count ≤ 64) where
+    by_fields : first_bad_task n k.count k.partition k.gap k.cost ≡ first k.count (λ i. not (task i))
     unfolding first_bad_task
-    by_fields = rw (le-ltb 64 m few)
+    by_fields = rw (le-ltb 64 k.count few)
 
-    pub bad_tasks_lem : (i : ℕ) → first m (λ j. not (task j)) ≡ some i → JudgeTasksIs n m part p e (verdict.Refused (BadTask i))
+    pub bad_tasks_lem : (i : ℕ) → first k.count (λ j. not (task j)) ≡ some i → JudgeTasksIs n k (Err (BadTask i))
     bad_tasks_lem i found = says_bad 9 tasks_alone _ (BadTask i) i refl (by_fields ∙ found)
 
-    pub good_tasks : first m (λ j. not (task j)) ≡ none → JudgeTasksIs n m part p e verdict.Good
+    pub good_tasks : first k.count (λ j. not (task j)) ≡ none → JudgeTasksIs n k (Ok tt)
     good_tasks none-bad = says_good 9 tasks_alone _ (by_fields ∙ none-bad)
 
 -- ---- and one that is asked for
-module _ (n m : ℕ) (part p e : List ℕ) (i : ℕ) (v : Verdict) (judged : JudgeTasksIs n m part p e v) where
-  pub tasks_refused : (r : Refusal) → v ≡ verdict.Refused r → JudgeTaskIs n m part p e i (verdict.Refused r)
-  tasks_refused = judged_fields 9 tasks_alone m i (first_bad_task n m part p e) v judged
+module _ (n : ℕ) (k : Tasks) (i : ℕ) (v : Result Unit Refusal) (judged : JudgeTasksIs n k v) where
+  pub tasks_refused : (r : Refusal) → v ≡ Err r → JudgeTaskIs n k i (Err r)
+  tasks_refused = judged_fields 9 tasks_alone k.count i (first_bad_task n k.count k.partition k.gap k.cost) v judged
 
-  pub task_absent : v ≡ verdict.Good → m ≤ i → JudgeTaskIs n m part p e i (verdict.Refused (BadTask i))
-  task_absent d = judged_absent 9 tasks_alone m i (first_bad_task n m part p e) v judged d (BadTask i) refl
+  pub task_absent : v ≡ Ok tt → k.count ≤ i → JudgeTaskIs n k i (Err (BadTask i))
+  task_absent d = judged_absent 9 tasks_alone k.count i (first_bad_task n k.count k.partition k.gap k.cost) v judged d (BadTask i) refl
 
-  pub task_there : v ≡ verdict.Good → i < m → JudgeTaskIs n m part p e i verdict.Good
-  task_there = judged_there 9 tasks_alone m i (first_bad_task n m part p e) v judged
+  pub task_there : v ≡ Ok tt → i < k.count → JudgeTaskIs n k i (Ok tt)
+  task_there = judged_there 9 tasks_alone k.count i (first_bad_task n k.count k.partition k.gap k.cost) v judged
 
 -- what a good verdict says
-module _ (n m : ℕ) (part p e : List ℕ) (i : ℕ) (v : Verdict) (judged : JudgeTaskIs n m part p e i v) (d : v ≡ verdict.Good) where
-  pub asked_tasks : TasksInRange n m part p e
-  asked_tasks = (asked_good 9 tasks_alone m i (first_bad_task n m part p e) v judged d).0
+module _ (n : ℕ) (k : Tasks) (i : ℕ) (v : Result Unit Refusal) (judged : JudgeTaskIs n k i v) (d : v ≡ Ok tt) where
+  pub asked_tasks : TasksInRange n k.count k.partition k.gap k.cost
+  asked_tasks = (asked_good 9 tasks_alone k.count i (first_bad_task n k.count k.partition k.gap k.cost) v judged d).0
 
-  pub asked_there : i < m
-  asked_there = (asked_good 9 tasks_alone m i (first_bad_task n m part p e) v judged d).1
+  pub asked_there : i < k.count
+  asked_there = (asked_good 9 tasks_alone k.count i (first_bad_task n k.count k.partition k.gap k.cost) v judged d).1

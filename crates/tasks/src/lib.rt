@@ -5,14 +5,13 @@ ghost use Rattle.std.specs.Prelude.{◌≡◌};
 ghost use Rattle.rules.specs.Numbers.{task_in_range};
 ghost use Rattle.tasks.specs.Promises.{JudgeTasksIs, JudgeTaskIs};
 
-use rules::Refusal;
-use verdicts::Verdict;
+use rules::{Refusal, Tasks};
 
-// A task names one of the `n` partitions. A gap is at most 65,535 by its type.
+// A task names one of the `n` partitions. A gap is at most 65,535 by its type. Its fields come one by one, as C has them in the table.
 fn task_in_range(n: usize, partition: u16, gap: u16, cost: u16) -> bool
     ensures { result ≡ task_in_range n partition gap cost }
 {
-    if n <= partition as usize {
+    if n <= usize::from(partition) {
         return false;
     }
     if gap == 0 {
@@ -24,44 +23,27 @@ fn task_in_range(n: usize, partition: u16, gap: u16, cost: u16) -> bool
     cost <= gap
 }
 
-// Refusal 9, of `m` tasks beside `n` partitions.
-pub fn judge_tasks<'k>(
-    n: usize,
-    m: usize,
-    partition: &'k [u16; 64],
-    gap: &'k [u16; 64],
-    cost: &'k [u16; 64],
-) -> Verdict
-    ensures { JudgeTasksIs n m partition.now gap.now cost.now result }
+// Refusal 9, of the tasks beside `n` partitions.
+pub fn judge_tasks(n: usize, k: &Tasks) -> Result<(), Refusal>
+    ensures { JudgeTasksIs n k.now result }
 {
-    if m > 64 {
-        return Verdict::Refused(Refusal::BadTask(64));
+    if k.count > 64 {
+        return Err(Refusal::BadTask(64));
     }
-    for j in 0..m {
-        if !task_in_range(n, partition[j], gap[j], cost[j]) {
-            return Verdict::Refused(Refusal::BadTask(j));
-        }
+    let bad = (0..k.count).find(|&j| !task_in_range(n, k.partition[j], k.gap[j], k.cost[j]));
+    match bad {
+        Some(j) => Err(Refusal::BadTask(j)),
+        None => Ok(()),
     }
-    Verdict::Good
 }
 
 // Refusal 9 once more: a task asked for that isn't there, after the fields.
-pub fn judge_task<'k>(
-    n: usize,
-    m: usize,
-    partition: &'k [u16; 64],
-    gap: &'k [u16; 64],
-    cost: &'k [u16; 64],
-    i: usize,
-) -> Verdict
-    ensures { JudgeTaskIs n m partition.now gap.now cost.now i result }
+pub fn judge_task(n: usize, k: &Tasks, i: usize) -> Result<(), Refusal>
+    ensures { JudgeTaskIs n k.now i result }
 {
-    let tasks = judge_tasks(n, m, partition, gap, cost);
-    if let Verdict::Refused(r) = tasks {
-        return Verdict::Refused(r);
+    judge_tasks(n, k)?;
+    if k.count <= i {
+        return Err(Refusal::BadTask(i));
     }
-    if m <= i {
-        return Verdict::Refused(Refusal::BadTask(i));
-    }
-    Verdict::Good
+    Ok(())
 }

@@ -1,12 +1,13 @@
--- What is promised of lent pairs b and o, which are `bs` and `os` after the call.
-use Rattle.std.specs.Prelude.{ℕ, ◌≡◌, List}
-use Rattle.rules.specs.Numbers.{Pairs}
+-- What is promised of lent pairs p, which are q after the call.
+use Rattle.std.specs.Prelude.{ℕ, ◌≡◌}
+use Rattle.rules.specs.declared.Pairs.{Pairs}
+use Rattle.rules.specs.declared.Table.{Table}
 use Rattle.rules.specs.Tick.{pass_time, tick}
 
--- time has passed
-abbrev pub PassTimeIs : ℕ → List ℕ → List ℕ → List ℕ → List ℕ → List ℕ → List ℕ → Type 0
-PassTimeIs n T B b o bs os = ◌≡◌ {A = Pairs} (record { b = bs; o = os }) (pass_time n T B b o)
+-- time has passed for n partitions
+abbrev pub PassTimeIs : ℕ → Table → Pairs → Pairs → Type 0
+PassTimeIs n t p q = q ≡ pass_time n t.period t.budget p.b p.o
 
 -- the tick itself, of any count
-abbrev pub PassTickIs : ℕ → List ℕ → List ℕ → List ℕ → List ℕ → ℕ → List ℕ → List ℕ → Type 0
-PassTickIs n T B b o pick bs os = ◌≡◌ {A = Pairs} (record { b = bs; o = os }) (tick n T B b o pick)
+abbrev pub PassTickIs : Table → Pairs → ℕ → Pairs → Type 0
+PassTickIs t p pick q = q ≡ tick t.count t.period t.budget p.b p.o pick

@@ -9,41 +9,41 @@ use Rattle.rules.specs.declared.Refusal.{Refusal}
 use Rattle.laws.proofs.Refusals.{InTurn, Late, late_last, late_alone}
 use Rattle.verdicts.specs.Outcome.{Outcome, refused, gives, unless_refused}
 use Rattle.verdicts.specs.Verdicts.{verdict_as}
-use Rattle.verdicts.specs.declared.Verdict.{Verdict}
-use Rattle.verdicts.specs.declared.Verdict.TheVariants as verdict
+use Rattle.std.specs.declared.result.Result.{Result}
+use Rattle.std.specs.declared.result.Result.TheVariants.{Ok, Err}
 use Rattle.verdicts.proofs.Verdicts.{verdict_refused, verdict_good, refused_early, left_to_others}
 
 module _ {A : Type 0} (x : A) (gs : List Ground) where
   -- a refusal is handed on
-  pub hands_on : (v : Verdict) (r : Refusal) → verdict_as v ≡ refusal gs → v ≡ verdict.Refused r → refused (refused_as r) ≡ unless_refused (refusal gs) x
+  pub hands_on : (v : Result Unit Refusal) (r : Refusal) → verdict_as v ≡ refusal gs → v ≡ Err r → refused (refused_as r) ≡ unless_refused (refusal gs) x
   unfolding unless_refused
   hands_on v r e d = rw (sym e ∙ verdict_refused v r d)
 
   -- and where there is none, the answer is given
-  pub not_refused : (v : Verdict) → verdict_as v ≡ refusal gs → v ≡ verdict.Good → unless_refused (refusal gs) x ≡ gives x
+  pub not_refused : (v : Result Unit Refusal) → verdict_as v ≡ refusal gs → v ≡ Ok tt → unless_refused (refusal gs) x ≡ gives x
   unfolding unless_refused
   not_refused v e d = rw (sym e ∙ verdict_good v d)
 
-  pub answers : (answer : Outcome A) (v : Verdict) → verdict_as v ≡ refusal gs → v ≡ verdict.Good → answer ≡ gives x → answer ≡ unless_refused (refusal gs) x
+  pub answers : (answer : Outcome A) (v : Result Unit Refusal) → verdict_as v ≡ refusal gs → v ≡ Ok tt → answer ≡ gives x → answer ≡ unless_refused (refusal gs) x
   answers answer v e d same = same ∙ sym (not_refused v e d)
 
 -- two verdicts, one after the other
-module _ {A : Type 0} (answer : A) {gs hs : List Ground} (turn : InTurn gs hs) (v : Verdict) (e : verdict_as v ≡ refusal gs) where
-  pub hands_on_first : (r : Refusal) → v ≡ verdict.Refused r → refused (refused_as r) ≡ unless_refused (refusal (gs ++ hs)) answer
+module _ {A : Type 0} (answer : A) {gs hs : List Ground} (turn : InTurn gs hs) (v : Result Unit Refusal) (e : verdict_as v ≡ refusal gs) where
+  pub hands_on_first : (r : Refusal) → v ≡ Err r → refused (refused_as r) ≡ unless_refused (refusal (gs ++ hs)) answer
   unfolding unless_refused
   hands_on_first r d = rw (refused_early turn v e r d)
 
-  module _ (d : v ≡ verdict.Good) (s : Verdict) (f : verdict_as s ≡ refusal hs) where
-    pub hands_on_second : (r : Refusal) → s ≡ verdict.Refused r → refused (refused_as r) ≡ unless_refused (refusal (gs ++ hs)) answer
+  module _ (d : v ≡ Ok tt) (s : Result Unit Refusal) (f : verdict_as s ≡ refusal hs) where
+    pub hands_on_second : (r : Refusal) → s ≡ Err r → refused (refused_as r) ≡ unless_refused (refusal (gs ++ hs)) answer
     unfolding unless_refused
     hands_on_second r g = rw (left_to_others turn v e d, sym f ∙ verdict_refused s r g)
 
-    pub answers_second : (said : Outcome A) → s ≡ verdict.Good → said ≡ gives answer → said ≡ unless_refused (refusal (gs ++ hs)) answer
+    pub answers_second : (said : Outcome A) → s ≡ Ok tt → said ≡ gives answer → said ≡ unless_refused (refusal (gs ++ hs)) answer
     unfolding unless_refused
     answers_second said g same = same ∙ sym (rw (left_to_others turn v e d, sym f ∙ verdict_good s g))
 
 -- a verdict, and then a ground of a later number
-module _ (x y z : Option ℕ) {k : ℕ} (late : Late k) (v : Verdict) (e : verdict_as v ≡ refusal (ground 1 x ∷ ground 3 y ∷ [])) (d : v ≡ verdict.Good) where
+module _ (x y z : Option ℕ) {k : ℕ} (late : Late k) (v : Result Unit Refusal) (e : verdict_as v ≡ refusal (ground 1 x ∷ ground 3 y ∷ [])) (d : v ≡ Ok tt) where
   pub late_decides : (found : Option ℕ) → z ≡ found → refusal (ground 1 x ∷ ground 3 y ∷ ground k z ∷ []) ≡ unless_before k found none
   late_decides found f = left_to_others (late_last x y z late) v e d ∙ late_alone late z ∙ ap (λ (u : Option ℕ). unless_before k u none) f
 

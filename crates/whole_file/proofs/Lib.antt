@@ -1,6 +1,4 @@
--- one record more, and a verdict
-pub mod Tables
 -- the pass over all records
 pub mod Loading
--- from the verdicts to what the call says
+-- from the verdicts on the records and on the tables to what the call says
 pub mod Calls

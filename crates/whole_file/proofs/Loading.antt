@@ -10,7 +10,7 @@ use native.Mathlib.Omega.{arith}
 use borrow.Author.Tests.{eqb-true}
 use lib.ListN.{set, length, length-append}
 use Rattle.basis.specs.Words.{padded}
-use Rattle.rules.specs.Refusals.{refused_as, malformed, refusal}
+use Rattle.rules.specs.Refusals.{Refused, refused_as, malformed, refusal}
 use Rattle.file_rules.specs.MeterFile.{column, most_bytes, two, length_at, kind_at, next_at, meter_kinds, form, is_record, malformed_at, Record, Reading, and_then, read_from, reading, of_kind, table_from, tasks_from, is_event, events_of, beginning, table_of, tasks_of, events_in}
 use Rattle.rules.specs.declared.Refusal.{Refusal}
 use Rattle.rules.specs.declared.Table.{Table}
@@ -19,17 +19,13 @@ use Rattle.laws.proofs.Tests.{below_or_not, none_is_some}
 use Rattle.laws.proofs.Refusals.{file_alone}
 use Rattle.file_laws.proofs.MeterFile.{over_limit_lem, no_record, a_record, payload_is, Whole, record_whole, Kind, partition, task, word, release, known_kind}
 use Rattle.file_laws.proofs.Records.{read_on, read_stops, read_ends, reading_small, reading_large, of_kind-this, of_kind_other, of_kind_few, column-next, field_at, event_kind, no_events-more, events_begin}
-use Rattle.verdicts.specs.Verdicts.{verdict_as}
-use Rattle.verdicts.specs.declared.Verdict.TheVariants as verdict
-use Rattle.verdicts.proofs.Verdicts.{verdict_good}
-use Rattle.meter.specs.Forms.{why_not}
-use Rattle.meter.specs.Promises.{ReadRecordIs, PayloadIs, WhyRefusedIs}
+use Rattle.std.specs.declared.result.Result.{Result}
+use Rattle.std.specs.declared.result.Result.TheVariants.{Ok, Err}
+use Rattle.meter.specs.Promises.{ReadRecordIs, PayloadIs}
 use Rattle.meter.proofs.Records.{Told, told_refused}
-use Rattle.meter.specs.declared.Read.{Read}
-use Rattle.meter.specs.declared.Read.TheVariants as read
+use Rattle.meter.specs.declared.Record.{Record as Answer}
 use Rattle.whole_file.specs.Inner.{empty, with_partition, with_task, with_record, LoadIs}
-use Rattle.whole_file.specs.Promises.{Judged, judged_as, refused_file}
-use Rattle.whole_file.specs.declared.Held.{Held}
+use Rattle.whole_file.specs.Promises.{judging}
 use Rattle.whole_file.specs.declared.MeterFile.{MeterFile}
 
 -- records that are done, and what is read after them
@@ -45,7 +41,7 @@ unfolding joined
 joined_end done = ap (λ (rs : List Record). record { records = rs; fault = none }) (append-nil done)
 
 module _ (file : List ℕ) where
-  pub record UpTo (held : Held) (before at : ℕ) : Type 0 where
+  pub record UpTo (held : MeterFile) (before at : ℕ) : Type 0 where
     pub done : List Record
     pub rounds : ℕ
     pub enough : length file ≤ at + rounds
@@ -75,10 +71,10 @@ module _ (file : List ℕ) where
         early = λ l. refl;
       }
 
-  pub load_begins : (h : Held) → h ≡ empty → UpTo h 0 0
-  load_begins h e = subst (λ (x : Held). UpTo x 0 0) (sym e) begins
+  pub load_begins : (h : MeterFile) → h ≡ empty → UpTo h 0 0
+  load_begins h e = subst (λ (x : MeterFile). UpTo x 0 0) (sym e) begins
 
-  module _ (held : Held) (before at : ℕ) (here : UpTo held before at) (l : at < length file) where
+  module _ (held : MeterFile) (before at : ℕ) (here : UpTo held before at) (l : at < length file) where
     -- there is a round left
     one_left : (rounds : ℕ) → length file ≤ at + rounds → (r : ℕ) × (rounds ≡ suc r)
     one_left zero e = absurd (lt_irrefl at (omega arith))
@@ -109,7 +105,7 @@ module _ (file : List ℕ) where
       more = here.done ++ this ∷ []
 
       -- what holds of any kind
-      step : (k : ℕ) → k ≡ kind_at file at → (h : Held) → h.table ≡ table_from file (of_kind 1 more) → h.tasks ≡ tasks_from file (of_kind 2 more)
+      step : (k : ℕ) → k ≡ kind_at file at → (h : MeterFile) → h.table ≡ table_from file (of_kind 1 more) → h.tasks ≡ tasks_from file (of_kind 2 more)
           → h.events ≡ beginning (events_of more) next → ((form k).place < 3 → events_of more ≡ []) → UpTo h k next
       unfolding joined
       step k e h t u v w =
@@ -211,8 +207,9 @@ module _ (file : List ℕ) where
             is : is_event (kind_at file at) ≡ true
             is = event_kind (kind_at file at) whole.known (λ d. a (e ∙ d)) (λ d. b (e ∙ d))
 
-        pub load_goes_on : (h : Held) → h ≡ with_record held kind part next → UpTo h kind next
-        load_goes_on h same = subst (λ (x : Held). UpTo x kind next) (sym same) (go (known_kind kind (subst (λ (k : ℕ). 0 < (form k).place) (sym told.kind_is) whole.known)) told.kind_is)
+        pub load_goes_on : (h : MeterFile) → h ≡ with_record held kind part next → (k : ℕ) → k ≡ kind → UpTo h k next
+        load_goes_on h same k k_is =
+            subst (λ (x : ℕ). UpTo h x next) (sym k_is) (subst (λ (x : MeterFile). UpTo x kind next) (sym same) (go (known_kind kind (subst (λ (k : ℕ). 0 < (form k).place) (sym told.kind_is) whole.known)) told.kind_is))
           where
             go : {k : ℕ} → Kind k → k ≡ kind_at file at → UpTo (with_record held k part next) k next
             go partition e = kind_1 e
@@ -221,7 +218,7 @@ module _ (file : List ℕ) where
             go release e = event 4 e (λ d. omega (arith, d)) (λ d. omega (arith, d))
 
     -- ---- a refused record ends the pass
-    module _ (answer : Read) (read_is : ReadRecordIs meter_kinds before file at answer) where
+    module _ (answer : Result Answer Refusal) (read_is : ReadRecordIs meter_kinds before file at answer) where
       stopped : is_record meter_kinds before file at ≡ false → length file ≤ most_bytes → (reading meter_kinds file).fault ≡ some at
       unfolding joined
       stopped e small =
@@ -245,27 +242,17 @@ module _ (file : List ℕ) where
               go true d = none_is_some (sym (rw (a_record meter_kinds before file at m d) (file_alone none)) ∙ e)
               go false d = stopped d m ∙ sym (no_record meter_kinds before file at m d)
 
-      pub load-refused : (q : Refusal) → answer ≡ read.Refused q → (p : Refusal) → WhyRefusedIs answer p → (r : MeterFile) → judged_as r ≡ refused_file (refused_as p) → LoadIs file r
-      load-refused q d p e r f =
-          record {
-            judged = said ∙ sym why ∙ ap (λ (m : Option ℕ). refusal (malformed m ∷ [])) (sym (same_fault q why));
-            table = λ g. not_good g;
-            tasks = λ g. not_good g;
-            events = λ g. not_good g;
-            refused = λ u g. (ap (λ (j : Judged). j.table) f, ap (λ (j : Judged). j.tasks) f, ap (λ (j : Judged). j.events) f);
-          }
+      pub load_refused : (q : Refusal) → answer ≡ Err q → LoadIs file (Err q)
+      unfolding judging
+      load_refused q d =
+          ap (λ (x : Option Refused). judging x file)
+          (sym (ap (λ (m : Option ℕ). refusal (malformed m ∷ [])) (same_fault q why) ∙ why))
         where
           why : refusal (malformed (malformed_at meter_kinds before file at) ∷ []) ≡ some (refused_as q)
           why = told_refused meter_kinds before file at answer read_is q d
 
-          said : verdict_as r.verdict ≡ some (refused_as q)
-          said = ap (λ (j : Judged). j.refused) f ∙ ap some (e ∙ ap why_not d)
-
-          not_good : {A : Type 0} → r.verdict ≡ verdict.Good → A
-          not_good g = none_is_some (sym (verdict_good r.verdict g) ∙ said)
-
   -- ---- and the end of the file ends it too
-  module _ (held : Held) (before at : ℕ) (here : UpTo held before at) (l : length file ≤ at) where
+  module _ (held : MeterFile) (before at : ℕ) (here : UpTo held before at) (l : length file ≤ at) where
     small_file : length file ≤ most_bytes
     small_file = go at refl
       where
@@ -280,19 +267,17 @@ module _ (file : List ℕ) where
         ∙ ap (joined here.done) (read_ends meter_kinds file here.rounds before at l)
         ∙ joined_end here.done
 
-    pub load_ends : LoadIs file (record { table = held.table; tasks = held.tasks; events = held.events; verdict = verdict.Good })
-    unfolding table_of tasks_of events_in
+    pub load_ends : LoadIs file (Ok held)
+    unfolding table_of tasks_of events_in judging
     load_ends =
-        record {
-          judged = verdict_good verdict.Good refl ∙ sym (ap (λ (x : Reading). refusal (malformed x.fault ∷ [])) all_read ∙ file_alone none);
-          table = λ g. here.table ∙ ap (λ (x : Reading). table_from file (of_kind 1 x.records)) (sym all_read);
-          tasks = λ g. here.tasks ∙ ap (λ (x : Reading). tasks_from file (of_kind 2 x.records)) (sym all_read);
-          events = λ g. here.events ∙ (λ i. beginning (events_of (all_read_back i).records) (at_end i));
-          refused = λ q g. none_is_some (sym (verdict_good verdict.Good refl) ∙ g);
-        }
+        (λ i. record { table = (here.table ∙ table_read) i; tasks = (here.tasks ∙ tasks_read) i; events = (here.events ∙ events_read) i; refused = none })
+        ∙ ap (λ (x : Option Refused). judging x file) (sym (ap (λ (x : Reading). refusal (malformed x.fault ∷ [])) all_read ∙ file_alone none))
       where
-        all_read_back : record { records = here.done; fault = none } ≡ reading meter_kinds file
-        all_read_back = sym all_read
+        table_read : table_from file (of_kind 1 here.done) ≡ table_of file
+        table_read = ap (λ (x : Reading). table_from file (of_kind 1 x.records)) (sym all_read)
 
-        at_end : at ≡ length file
-        at_end = le_antisymm here.inside l
+        tasks_read : tasks_from file (of_kind 2 here.done) ≡ tasks_of file
+        tasks_read = ap (λ (x : Reading). tasks_from file (of_kind 2 x.records)) (sym all_read)
+
+        events_read : beginning (events_of here.done) at ≡ beginning (events_in file) (length file)
+        events_read i = beginning (events_of (sym all_read i).records) (le_antisymm here.inside l i)

@@ -1,55 +1,52 @@
 // A whole meter file: the tables that it holds and where its events begin, in one pass, judged and refused by number.
 #![tactic(auto)]
 
-ghost use Rattle.std.specs.Prelude.{◌≡◌, ◌<◌};
-ghost use Rattle.whole_file.specs.Inner.{with_partition, with_task, with_record, empty, LoadIs, JudgeHeldIs};
-ghost use Rattle.whole_file.specs.Promises.{judged_as, refused_file, JudgeFileIs};
-ghost use Rattle.rules.specs.Refusals.{refused_as};
+ghost use Rattle.std.specs.Prelude.{◌≡◌, ◌<◌, slice_set};
+ghost use Rattle.meter.specs.Forms.{number_of};
+ghost use Rattle.whole_file.specs.Inner.{empty, with_partition, with_task, with_record, LoadIs, JudgeHeldIs};
+ghost use Rattle.whole_file.specs.Promises.{JudgeFileIs};
 
 use little_endian::two;
-use meter::{Read, payload, read_record, why_refused};
+use meter::{Kind, METER_KINDS, Record, payload, read_record};
 use ranges::judge_table;
 use rules::{Refusal, Table, Tasks};
-use standing::{Test, admission};
+use standing::admission;
 use tasks::judge_tasks;
-use verdicts::Verdict;
 
-// What a meter file holds: its partitions, its tasks, and where its first word or release begins, or its end. On a refusal all of that is 0.
+// What a meter file holds: its partitions, its tasks, and where its first word or release begins, or its end.
 #[derive(Clone, Copy)]
 pub struct MeterFile {
     pub table: Table,
     pub tasks: Tasks,
     pub events: usize,
-    pub verdict: Verdict,
 }
 
-// What the records so far hold.
-#[derive(Clone, Copy)]
-struct Held {
-    table: Table,
-    tasks: Tasks,
-    events: usize,
-}
-
-fn nothing() -> Held
+fn nothing() -> MeterFile
     ensures { result ≡ empty }
 {
-    let places = [0u16; 16];
-    let rows = [0u16; 64];
-    Held {
+    MeterFile {
         table: Table {
+            period: [0; 16],
+            budget: [0; 16],
+            phase: [0; 16],
             count: 0,
-            period: places,
-            budget: places,
-            phase: places,
         },
         tasks: Tasks {
             count: 0,
-            partition: rows,
-            gap: rows,
-            cost: rows,
+            partition: [0; 64],
+            gap: [0; 64],
+            cost: [0; 64],
         },
         events: 0,
+    }
+}
+
+// A number put in a place; past the last place it is put nowhere.
+fn put(places: &mut [u16], at: usize, x: u16)
+    ensures { places.new ≡ slice_set places.old at x }
+{
+    if at < places.len() {
+        places[at] = x;
     }
 }
 
@@ -59,132 +56,82 @@ fn with_partition(mut t: Table, part: &[u8]) -> Table
     ensures { result ≡ with_partition t part.now }
 {
     let n = t.count;
-    t.count = n + 1;
-    if n >= 16 {
-        return t;
-    }
-    t.period[n] = two(part, 0);
-    t.budget[n] = two(part, 2);
-    t.phase[n] = two(part, 4);
+    put(&mut t.period, n, two(part, 0));
+    put(&mut t.budget, n, two(part, 2));
+    put(&mut t.phase, n, two(part, 4));
+    t.count += 1;
     t
 }
 
-// One more task. Those past the sixty-fourth are only counted.
+// One more task. Those past the sixty-fourth are only counted. Beside `with_partition`, since C has two structs with fields of their own names.
 fn with_task(mut k: Tasks, part: &[u8]) -> Tasks
     requires { k.count < 65536 }
     ensures { result ≡ with_task k part.now }
 {
     let m = k.count;
-    k.count = m + 1;
-    if m >= 64 {
-        return k;
-    }
-    k.partition[m] = two(part, 0);
-    k.gap[m] = two(part, 2);
-    k.cost[m] = two(part, 4);
+    put(&mut k.partition, m, two(part, 0));
+    put(&mut k.gap, m, two(part, 2));
+    put(&mut k.cost, m, two(part, 4));
+    k.count += 1;
     k
 }
 
-// One more record of a kind, with its payload; the events begin past the last partition or task.
-fn with_record(held: Held, kind: u16, part: &[u8], next: usize) -> Held
+// One more record, with its payload; the events begin past the last partition or task.
+// That the counts don't wrap stands in three `requires`, not in an invariant: C gives its tables with any count.
+fn with_record(mut held: MeterFile, found: Record, part: &[u8]) -> MeterFile
     requires { (held.table.count < 65536) × (held.tasks.count < 65536) }
-    ensures { result ≡ with_record held kind part.now next }
+    ensures { result ≡ with_record held (number_of found.kind) part.now found.next }
 {
-    let table = held.table;
-    let tasks = held.tasks;
-    if kind == 1 {
-        return Held {
-            table: with_partition(table, part),
-            tasks,
-            events: next,
-        };
-    }
-    if kind == 2 {
-        return Held {
-            table,
-            tasks: with_task(tasks, part),
-            events: next,
-        };
+    match found.kind {
+        Kind::Partition => {
+            held.table = with_partition(held.table, part);
+            held.events = found.next;
+        }
+        Kind::Task => {
+            held.tasks = with_task(held.tasks, part);
+            held.events = found.next;
+        }
+        Kind::Word | Kind::Release => {}
     }
     held
 }
 
-// What a file holds that is refused.
-fn refused_file(why: Refusal) -> MeterFile
-    ensures { judged_as result ≡ refused_file (refused_as why) }
-{
-    let held = nothing();
-    let table = held.table;
-    let tasks = held.tasks;
-    MeterFile {
-        table,
-        tasks,
-        events: 0,
-        verdict: Verdict::Refused(why),
-    }
-}
-
 // All records, in one pass. Refusal 8.
-fn load(file: &[u8]) -> MeterFile
+#[tactic(auto, using(meter::proofs::Records::told_record, crate::proofs::Loading::load_begins, crate::proofs::Loading::load_goes_on))]
+fn load(file: &[u8]) -> Result<MeterFile, Refusal>
     ensures { LoadIs file.now result }
 {
-    let kinds = [1u16, 2, 3, 4];
     let mut held = nothing();
     let mut before = 0u16;
     let mut at = 0;
     while at < file.len() {
-        let answer = read_record(&kinds, before, file, at);
-        let Read::Record(kind, next) = answer else {
-            return refused_file(why_refused(answer));
-        };
-        held = with_record(held, kind, payload(&kinds, before, file, at), next);
-        before = kind;
-        at = next;
+        let found = read_record(&METER_KINDS, before, file, at)?;
+        held = with_record(held, found, payload(&METER_KINDS, before, file, at));
+        before = u16::from(found.kind);
+        at = found.next;
     }
-    let table = held.table;
-    let tasks = held.tasks;
-    MeterFile {
-        table,
-        tasks,
-        events: held.events,
-        verdict: Verdict::Good,
-    }
+    Ok(held)
 }
 
 // What is against the tables of a file. Refusals 1, 9 and 2.
-fn judge_held(t: Table, k: Tasks) -> Verdict
-    ensures { JudgeHeldIs t k result }
+#[tactic(auto, using(crate::proofs::Calls::held_table_bad, crate::proofs::Calls::held_tasks_bad, crate::proofs::Calls::held_refused, crate::proofs::Calls::held_fails, crate::proofs::Calls::held_passes))]
+fn judge_held(t: &Table, k: &Tasks) -> Result<(), Refusal>
+    ensures { JudgeHeldIs t.now k.now result }
 {
-    let n = t.count;
-    let table = judge_table(n, &t.period, &t.budget, &t.phase);
-    if let Verdict::Refused(r) = table {
-        return Verdict::Refused(r);
-    }
-    let tasks = judge_tasks(n, k.count, &k.partition, &k.gap, &k.cost);
-    if let Verdict::Refused(r) = tasks {
-        return Verdict::Refused(r);
-    }
-    match admission(t) {
-        Test::Refused(r) => Verdict::Refused(r),
-        Test::Fails(h) => Verdict::Refused(Refusal::NotAdmitted(h)),
-        Test::Passes => Verdict::Good,
+    judge_table(t)?;
+    judge_tasks(t.count, k)?;
+    match admission(*t)? {
+        Some(h) => Err(Refusal::NotAdmitted(h)),
+        None => Ok(()),
     }
 }
 
 // A whole file: what it holds, or why it is refused. Refusals 8, 1, 9 and 2.
-pub fn judge_file(file: &[u8]) -> MeterFile
+#[tactic(auto, using(crate::proofs::Calls::file_malformed, crate::proofs::Calls::file_refused, crate::proofs::Calls::file_good))]
+pub fn judge_file(file: &[u8]) -> Result<MeterFile, Refusal>
     ensures { JudgeFileIs file.now result }
 {
-    let loaded = load(file);
-    let read = loaded.verdict;
-    if let Verdict::Refused(_) = read {
-        return loaded;
-    }
-    let table = loaded.table;
-    let tasks = loaded.tasks;
-    let judged = judge_held(table, tasks);
-    if let Verdict::Refused(r) = judged {
-        return refused_file(r);
-    }
-    loaded
+    let held = load(file)?;
+    judge_held(&held.table, &held.tasks)?;
+    Ok(held)
 }

@@ -1,9 +1,9 @@
-use Rattle.pairs.proofs.Good.{few_of_state}
+use Rattle.std.proofs.Common.{rules}
 use Rattle.candidates.proofs.Calls.{list_refused, list_given}
 use Rattle.candidates.proofs.candidates.Goals as goal
 
-pub returns-in-Refused : goal.returns-in-Refused
-returns-in-Refused c = list_refused _ _ _ _ c.judge-judged.ensures c.in-Refused.is
+pub returns-in_err-judge : goal.returns-in_err-judge
+returns-in_err-judge c = search (rules, list_refused)
 
 pub returns : goal.returns
-returns c = list_given _ _ _ _ _ _ c.search-length.ensures _ _ (few_of_state _ _ _ _ _ _ _ c.judge-judged.ensures c.in_default.is) c.judge-judged.ensures c.in_default.is
+returns c = list_given _ _ _ c.judge.ensures c.in_ok-judge.was _ c.search-length.ensures

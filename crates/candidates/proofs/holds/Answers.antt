@@ -1,17 +1,9 @@
-use borrow.Author.Rules.{rules}
-use Rattle.basis.specs.Words.{has}
-use Rattle.laws.proofs.Places.{has-take_here, has-take-next, has-take-none}
+use Rattle.std.proofs.Common.{rules, sym, ◌∙◌}
+use Rattle.laws.proofs.Places.{has_here, has-take-next}
 use Rattle.candidates.proofs.holds.Goals as goal
 
-pub loop-i-init : goal.loop-i-init
-unfolding has
-loop-i-init c = search rules
+pub returns-then-from-pick : goal.returns-then-from-pick
+returns-then-from-pick c = has_here _ _ _ c.loop-x-test.true (sym c.from.ensures ∙ c.if-from-pick.true)
 
-pub returns-then-place-pick : goal.returns-then-place-pick
-returns-then-place-pick c = search (rules, has-take_here)
-
-pub loop-i-preserved : goal.loop-i-preserved
-loop-i-preserved c = search (rules, has-take-next)
-
-pub returns : goal.returns
-returns c = search (rules, has-take-none)
+pub loop-x-preserved : goal.loop-x-preserved
+loop-x-preserved c = search (rules, has-take-next)

@@ -1,5 +1,9 @@
-use Rattle.lines.proofs.Parts.{summed}
+use Rattle.lines.proofs.Parts.{count_skips, count_goes_on}
 use Rattle.lines.proofs.fields_length.Goals as goal
+use Rattle.lines.proofs.fields_length.Goals.{in-Some, in_default}
 
-pub returns : goal.returns
-returns c = summed _ _ _ _ _ c.first_length.ensures.is c.later_length.ensures.is c.later_length-2.ensures.is c.later_length-3.ensures.is
+pub loop-later-preserved : goal.loop-later-preserved
+loop-later-preserved c = elim c.match-later.branch [
+  | in-Some w ↦ rw w.length-is (count_goes_on _ _ _ c.loop-later.invariant _ w.in-Some.is _ w.field_length.ensures)
+  | in_default w ↦ rw w.length-is (count_skips _ _ _ c.loop-later.invariant w.in_default.is)
+]

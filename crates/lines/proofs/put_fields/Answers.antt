@@ -1,27 +1,19 @@
 use native.Mathlib.Omega.{arith}
-use Rattle.lines.proofs.Parts.{first_room, second_room, third_room, fourth_room, end_room, end_below, end_kept, whole_line}
+use Rattle.lines.proofs.Parts.{place_there, put_skips, put_goes_on, put_ends}
 use Rattle.lines.proofs.put_fields.Goals as goal
+use Rattle.lines.proofs.put_fields.Goals.{in-Some, in_default}
 
-pub put_first-at-requires : goal.put_first-at-requires
-put_first-at-requires c = first_room _ c.args.buf.now c.requires
+pub overflow_add-at : goal.overflow_add-at
+overflow_add-at c = omega (arith, place_there _ _ c.requires _ _ _ c.loop-later.invariant)
 
-pub put_later-at-requires : goal.put_later-at-requires
-put_later-at-requires c = second_room _ _ c.requires c.put_first-at.ensures
-
-pub put_later-at-requires-2 : goal.put_later-at-requires-2
-put_later-at-requires-2 c = third_room _ _ c.requires c.put_first-at.ensures c.put_later-at.ensures
-
-pub put_later-at-requires-3 : goal.put_later-at-requires-3
-put_later-at-requires-3 c = fourth_room _ _ c.requires c.put_first-at.ensures c.put_later-at.ensures c.put_later-at-2.ensures
-
-pub bounds-buf-at : goal.bounds-buf-at
-bounds-buf-at c = end_room _ _ c.requires c.put_first-at.ensures c.put_later-at.ensures c.put_later-at-2.ensures c.put_later-at-3.ensures
+pub loop-later-preserved : goal.loop-later-preserved
+loop-later-preserved c = elim c.match-later.branch [
+  | in-Some w ↦ rw (w.at-is, w.buf-is) (put_goes_on _ _ c.requires _ _ _ c.loop-later.invariant _ w.in-Some.is _ _ w.put_field-at-in-Some.ensures)
+  | in_default w ↦ rw (w.at-is, w.buf-is) (put_skips _ _ c.requires _ _ _ c.loop-later.invariant w.in_default.is)
+]
 
 pub overflow_add-result : goal.overflow_add-result
-overflow_add-result c = omega (arith, end_below _ _ c.requires c.put_first-at.ensures c.put_later-at.ensures c.put_later-at-2.ensures c.put_later-at-3.ensures, c.well_formed.1.0.1)
-
-pub shape_of-buf : goal.shape_of-buf
-shape_of-buf c = end_kept _ _ c.requires c.put_first-at.ensures c.put_later-at.ensures c.put_later-at-2.ensures c.put_later-at-3.ensures _
+overflow_add-result c = omega (arith, place_there _ _ c.requires _ _ _ c.loop-later.invariant)
 
 pub returns : goal.returns
-returns c = whole_line _ _ c.requires c.put_first-at.ensures c.put_later-at.ensures c.put_later-at-2.ensures c.put_later-at-3.ensures
+returns c = put_ends _ _ c.requires _ _ _ c.loop-later.invariant (omega arith)

@@ -1,9 +1,9 @@
-use Rattle.laws.proofs.Refusals.{table_then_state}
-use Rattle.verdicts.proofs.Verdicts.{judged_early, judged_later}
+use Rattle.std.proofs.Common.{rules}
+use Rattle.pairs.proofs.Parts.{table_refused, pairs_decide}
 use Rattle.pairs.proofs.judge.Goals as goal
 
-pub returns-in-Refused : goal.returns-in-Refused
-returns-in-Refused c = judged_early (table_then_state _ _) _ c.judge_table-table.ensures _ c.in-Refused.is
+pub returns-in_err-judge_table : goal.returns-in_err-judge_table
+returns-in_err-judge_table c = search (rules, table_refused)
 
 pub returns : goal.returns
-returns c = judged_later (table_then_state _ _) _ c.judge_table-table.ensures _ c.in_default.is c.judge_state.ensures
+returns c = search (rules, pairs_decide)

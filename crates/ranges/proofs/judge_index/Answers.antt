@@ -1,11 +1,9 @@
-use Rattle.ranges.proofs.Steps.{table-refused, partition_absent, partition_there}
+use Rattle.std.proofs.Common.{rules}
+use Rattle.ranges.proofs.Steps.{table-refused, partition_absent}
 use Rattle.ranges.proofs.judge_index.Goals as goal
 
-pub returns-in-Refused : goal.returns-in-Refused
-returns-in-Refused c = table-refused _ _ _ _ _ _ c.judge_table-table.ensures _ c.in-Refused.is
+pub returns-in_err-judge_table : goal.returns-in_err-judge_table
+returns-in_err-judge_table c = search (rules, table-refused)
 
-pub returns-then-n-h : goal.returns-then-n-h
-returns-then-n-h c = partition_absent _ _ _ _ _ _ c.judge_table-table.ensures c.in_default.is c.if-n-h.true
-
-pub returns : goal.returns
-returns c = partition_there _ _ _ _ _ _ c.judge_table-table.ensures c.in_default.is c.if-n-h.false
+pub returns-then-t-h : goal.returns-then-t-h
+returns-then-t-h c = search (rules, partition_absent)

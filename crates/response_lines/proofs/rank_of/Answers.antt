@@ -1,31 +1,17 @@
+use mathlib.Core.Path.{◌∙◌}
 use native.Mathlib.Omega.{arith}
-use Rattle.response_lines.proofs.Rows.{rank_begins, rank_counts, rank_skips, rank_ends}
+use lib.Dec.{eqb}
+use Rattle.std.proofs.Common.{rules, tests}
+use Rattle.std.proofs.lemmas.Iterator.{YieldsList-from_slice}
+use Rattle.std.proofs.lemmas.Iterator.Consumers.{YieldsList-from_filter, count_from_yields_List}
+use Rattle.basis.specs.Words.{◌!◌}
+use Rattle.rules.specs.TaskResponse.{rank_of}
+use Rattle.response_lines.proofs.Rows.{counted}
 use Rattle.response_lines.proofs.rank_of.Goals as goal
-use Rattle.response_lines.proofs.rank_of.Goals.{then-partition-j, else-partition-j}
-
-pub loop-j-init : goal.loop-j-init
-loop-j-init c = rank_begins _ _
-
-pub offset_bounds-partition-j : goal.offset_bounds-partition-j
-offset_bounds-partition-j c = omega arith
-
-pub bounds-partition-j : goal.bounds-partition-j
-bounds-partition-j c = omega arith
-
-pub overflow_add-rank : goal.overflow_add-rank
-overflow_add-rank c = omega arith
-
-pub overflow_step-j : goal.overflow_step-j
-overflow_step-j c = omega arith
-
-pub loop-j-smaller : goal.loop-j-smaller
-loop-j-smaller c = omega arith
-
-pub loop-j-preserved : goal.loop-j-preserved
-loop-j-preserved c = elim c.if-partition-j.branch [
-  | then-partition-j w ↦ rank_counts _ _ _ _ c.loop-j.invariant c.loop-j-test.true w.if-partition-j.true _ w.rank-is
-  | else-partition-j w ↦ rank_skips _ _ _ _ c.loop-j.invariant c.loop-j-test.true w.if-partition-j.false _ w.rank-is
-]
 
 pub returns : goal.returns
-returns c = rank_ends _ _ _ _ c.loop-j.invariant c.loop-j-test.false
+unfolding rank_of
+returns c =
+    count_from_yields_List c.filter.result _ c.count.ensures.ran
+    (YieldsList-from_filter _ (λ p. eqb p (c.args.partition.now ! c.args.i)) (YieldsList-from_slice _ cc) c.filter.ensures.closure (λ x r q k. search (rules, tests)))
+    ∙ counted c.args.partition.now (c.args.partition.now ! c.args.i) c.args.i (omega arith)

@@ -1,8 +1,9 @@
-use Rattle.schedule_lines.proofs.Puts.{plain-refused, plain-made}
+use Rattle.std.proofs.Common.{rules}
+use Rattle.schedule_lines.proofs.Puts.{plain_short, plain_made}
 use Rattle.schedule_lines.proofs.plain_line.Goals as goal
 
-pub returns-in-Refused : goal.returns-in-Refused
-returns-in-Refused c = plain-refused _ _ c.args.file.now _ _ c.args.buf.now _ c.judged-verdict.ensures _ c.in-Refused.is
+pub returns-in_err-made : goal.returns-in_err-made
+returns-in_err-made c = search (rules, plain_short _ _ c.args.file.now _ _ _ _ c.judged.ensures c.in_ok-judged.was _ _ c.put_line.ensures)
 
 pub returns : goal.returns
-returns c = plain-made _ _ c.args.file.now _ _ c.args.buf.now _ c.judged-verdict.ensures c.in_default.is c.put.result _ c.put.ensures
+returns c = plain_made _ _ c.args.file.now _ _ _ _ c.judged.ensures c.in_ok-judged.was _ _ c.put_line.ensures _ c.in_ok-made.was

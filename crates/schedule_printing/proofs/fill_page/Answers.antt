@@ -1,31 +1,26 @@
 use borrow.Author.Rules.{rules}
+use mathlib.Core.Path.{refl}
 use native.Mathlib.Omega.{arith}
-use Rattle.schedule_printing.proofs.Schedule.{page_begins, page_full, filled, page_refused}
+use Rattle.schedule_printing.proofs.Schedule.{page_begins, page_ends, short, filled, line_nearer, page_refused}
 use Rattle.schedule_printing.proofs.fill_page.Goals as goal
 
 pub loop-used-init : goal.loop-used-init
 loop-used-init c = page_begins _ _ _ _ _ c.requires.0 c.requires.1
 
-pub slice_bounds-schedule_line-count : goal.slice_bounds-schedule_line-count
-slice_bounds-schedule_line-count c = omega (arith, c.loop-used-test.true, c.loop-used.invariant.long)
-
-pub slice_bounds-schedule_line-start : goal.slice_bounds-schedule_line-start
-slice_bounds-schedule_line-start c = omega (arith, c.loop-used-test.true, c.loop-used.invariant.long)
-
-pub returns-in-Refused : goal.returns-in-Refused
-returns-in-Refused c = page_refused c.args.file.now _ _ _ _ _ _ _ c.loop-used.invariant c.loop-used-test.true c.schedule_line-printed.result c.schedule_line-printed.new.buf (search rules) c.schedule_line-printed.ensures _ c.in-Refused.is
-
 pub overflow_add-used : goal.overflow_add-used
-overflow_add-used c = omega (arith, (filled c.args.file.now _ _ _ _ _ _ _ c.loop-used.invariant c.loop-used-test.true c.schedule_line-printed.result c.schedule_line-printed.new.buf (search rules) c.schedule_line-printed.ensures _ _ c.in-Line.is).short, c.loop-used-test.true)
-
-pub returns-in_default : goal.returns-in_default
-returns-in_default c = (filled c.args.file.now _ _ _ _ _ _ _ c.loop-used.invariant c.loop-used-test.true c.schedule_line-printed.result c.schedule_line-printed.new.buf (search rules) c.schedule_line-printed.ensures _ _ c.in-Line.is).last_one c.in_default.is
+overflow_add-used c = omega (arith, short _ _ _ _ _ _ _ _ c.loop-used.invariant _ c.in-Some.is c.loop-used-test.true _ _ _ c.schedule_line.ensures (omega arith) _ c.in-Ok.is)
 
 pub loop-used-smaller : goal.loop-used-smaller
-loop-used-smaller c = (filled c.args.file.now _ _ _ _ _ _ _ c.loop-used.invariant c.loop-used-test.true c.schedule_line-printed.result c.schedule_line-printed.new.buf (search rules) c.schedule_line-printed.ensures _ _ c.in-Line.is).further _ c.in-Line-next.is
+loop-used-smaller c = line_nearer _ _ _ _ _ _ _ _ c.loop-used.invariant _ c.in-Some.is c.loop-used-test.true _ _ _ c.schedule_line.ensures (omega arith) _ c.in-Ok.is
 
 pub loop-used-preserved : goal.loop-used-preserved
-loop-used-preserved c = (filled c.args.file.now _ _ _ _ _ _ _ c.loop-used.invariant c.loop-used-test.true c.schedule_line-printed.result c.schedule_line-printed.new.buf (search rules) c.schedule_line-printed.ensures _ _ c.in-Line.is).goes_on _ c.in-Line-next.is
+loop-used-preserved c = filled _ _ _ _ _ _ _ _ c.loop-used.invariant _ c.in-Some.is c.loop-used-test.true _ _ _ c.schedule_line.ensures (omega arith) _ c.in-Ok.is refl (search rules)
 
-pub returns : goal.returns
-returns c = page_full c.args.file.now _ _ _ _ _ _ _ c.loop-used.invariant c.loop-used-test.false
+pub returns-in-Err : goal.returns-in-Err
+returns-in-Err c = page_refused _ _ _ _ _ _ _ _ c.loop-used.invariant _ c.in-Some.is c.loop-used-test.true _ _ _ c.schedule_line.ensures (omega arith) _ c.in-Err.is refl (search rules)
+
+pub returns-in_default : goal.returns-in_default
+returns-in_default c = page_ends _ _ _ _ _ _ _ _ c.loop-used.invariant (λ x e. let none = c.in_default.is in cc)
+
+pub returns-after-loop-used : goal.returns-after-loop-used
+returns-after-loop-used c = page_ends _ _ _ _ _ _ _ _ c.loop-used.invariant (λ x e. omega arith)

@@ -1,9 +1,6 @@
-use Prim.Native.Nat.{◌-◌, ◌≤◌}
+use Prim.Native.Nat.{◌≤◌}
 use Rattle.scheduler.proofs.Fresh.{FreshTo}
 use Rattle.scheduler.proofs.fresh_start.Given as goal
 
 abbrev pub invariant-loop-i : goal.invariant-loop-i
-invariant-loop-i l = (l.i ≤ l.t.count) × FreshTo l.t.period l.t.budget l.t.phase l.i l.b l.o
-
-abbrev pub decreases-loop-i : goal.decreases-loop-i
-decreases-loop-i l = l.t.count - l.i
+invariant-loop-i l = (l.i ≤ l.t.count) × FreshTo l.t l.i l.p

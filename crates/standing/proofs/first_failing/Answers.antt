@@ -1,17 +1,13 @@
-use Prim.Native.Nat.{zero-le}
-use native.Mathlib.Omega.{arith}
-use Rattle.laws.proofs.Places.{pass_begins, pass_next, fails_here, none_fails}
-use Rattle.standing.proofs.Tests.{tested, said}
+use mathlib.Core.Path.{refl}
+use mathlib.Core.Bool.{not}
+use borrow.Author.Tests.{tests}
+use Rattle.std.proofs.Common.{rules}
+use Rattle.laws.proofs.Found.{first_is_found}
+use Rattle.standing.proofs.Tests.{told, failing}
 use Rattle.standing.proofs.first_failing.Goals as goal
 
-pub loop-h-init : goal.loop-h-init
-loop-h-init c = (zero-le, pass_begins _)
-
-pub returns-then-not-passes : goal.returns-then-not-passes
-returns-then-not-passes c = said _ _ _ _ _ _ (fails_here _ _ c.loop-h.invariant.1 _ _ c.loop-h-test.true (tested _ _ _ _ _ _ _ c.requires c.loop-h-test.true c.passes.ensures) c.if-not-passes.true)
-
-pub loop-h-preserved : goal.loop-h-preserved
-loop-h-preserved c = (omega arith, pass_next _ _ c.loop-h.invariant.1 _ (tested _ _ _ _ _ _ _ c.requires c.loop-h-test.true c.passes.ensures) c.if-not-passes.false)
-
 pub returns : goal.returns
-returns c = said _ _ _ _ _ _ (none_fails _ _ c.loop-h.invariant.1 _ c.loop-h-test.false c.loop-h.invariant.0)
+returns c =
+    failing _ _ _ _ _ _ c.requires
+    (first_is_found (λ h. not (told c.args.t.now.count c.args.t.now.period c.args.t.now.budget c.args.p.now.b c.args.p.now.o h)) _ _ _ _ c.find.ensures.ran refl
+    (λ x q k. search (rules, tests)) (λ x q k. search (rules, tests)))

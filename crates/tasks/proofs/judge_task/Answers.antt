@@ -1,11 +1,12 @@
+use Rattle.std.proofs.Common.{rules}
 use Rattle.tasks.proofs.Judged.{tasks_refused, task_absent, task_there}
 use Rattle.tasks.proofs.judge_task.Goals as goal
 
-pub returns-in-Refused : goal.returns-in-Refused
-returns-in-Refused c = tasks_refused _ _ _ _ _ _ _ c.judge_tasks-tasks.ensures _ c.in-Refused.is
+pub returns-in_err-judge_tasks : goal.returns-in_err-judge_tasks
+returns-in_err-judge_tasks c = search (rules, tasks_refused)
 
-pub returns-then-m-i : goal.returns-then-m-i
-returns-then-m-i c = task_absent _ _ _ _ _ _ _ c.judge_tasks-tasks.ensures c.in_default.is c.if-m-i.true
+pub returns-then-k-i : goal.returns-then-k-i
+returns-then-k-i c = search (rules, task_absent)
 
 pub returns : goal.returns
-returns c = task_there _ _ _ _ _ _ _ c.judge_tasks-tasks.ensures c.in_default.is c.if-m-i.false
+returns c = search (rules, task_there)

@@ -8,10 +8,10 @@ pub loop-length-init : goal.loop-length-init
 loop-length-init c = search (rules, going_begins)
 
 pub returns-then-sum-length : goal.returns-then-sum-length
-returns-then-sum-length c = near_still _ _ _ _ _ _ _ c.requires.3 _ c.lesser-near.ensures.0 c.lesser-near.ensures.1 _ c.loop-length.invariant.1 c.loop-length-test.true _ c.refills_once.ensures c.if-sum-length.true
+returns-then-sum-length c = near_still _ _ _ _ _ _ _ c.requires.3 _ c.loop-length.invariant.1 (omega arith) (omega arith) _ c.refills_once.ensures _ c.from.ensures c.if-sum-length.true
 
 pub loop-length-smaller : goal.loop-length-smaller
-loop-length-smaller c = near_nearer _ _ _ _ _ _ _ c.requires.3 _ c.lesser-near.ensures.0 c.lesser-near.ensures.1 _ c.loop-length.invariant.1 c.loop-length-test.true _ c.refills_once.ensures c.if-sum-length.false
+loop-length-smaller c = search (rules, near_nearer)
 
 pub loop-length-preserved : goal.loop-length-preserved
-loop-length-preserved c = (let small = c.refills_once.ensures.small in let few = c.requires.1 in omega arith, near_on _ _ _ _ _ _ _ c.requires.3 _ c.lesser-near.ensures.0 c.lesser-near.ensures.1 _ c.loop-length.invariant.1 c.loop-length-test.true _ c.refills_once.ensures c.if-sum-length.false)
+loop-length-preserved c = (omega arith, near_on _ _ _ _ _ _ _ c.requires.3 _ c.loop-length.invariant.1 (omega arith) (omega arith) _ c.refills_once.ensures c.if-sum-length.false)

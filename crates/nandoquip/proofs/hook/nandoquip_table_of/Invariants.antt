@@ -1,7 +1,7 @@
--- The table holds the first i records.
-use Rattle.std.proofs.Common.{◌≡◌}
+-- The table holds the records so far.
+use Rattle.std.proofs.Common.{◌≡◌, length}
 use Rattle.nandoquip.specs.Records.{table_to}
 use Rattle.nandoquip.proofs.hook.nandoquip_table_of.Given as goal
 
 abbrev pub invariant-loop-i : goal.invariant-loop-i
-invariant-loop-i l = l.t ≡ table_to l.i l.parts
+invariant-loop-i l = l.t ≡ table_to (length l.yielded) l.parts

@@ -1,2 +1,0 @@
--- what is made of an answer is that answer in numbers
-pub mod Made
