@@ -11,7 +11,7 @@ use Rattle.rules.specs.declared.Tasks.{Tasks}
 use Rattle.candidates.specs.declared.Listed.{Listed}
 use Rattle.draw.specs.declared.Weighed.{Weighed}
 use Rattle.scheduler.specs.declared.State.{State}
-use Rattle.numbers.specs.Promises.{RefusalNumbersAre, VerdictNumbersAre, TestNumbersAre, LengthNumbersAre, ResponseNumbersAre, PickNumbersAre, ChangeNumbersAre, ListNumbersAre, WeightNumbersAre, TurnIs, TurnForIs, ReleasedIs}
+use Rattle.numbers.specs.Promises.{RefusalNumbersAre, VerdictNumbersAre, TestNumbersAre, LengthNumbersAre, ResponseNumbersAre, PickNumbersAre, ChangeNumbersAre, ListNumbersAre, WeightNumbersAre, ListBesideIs, WeightsBesideAre, TurnIs, TurnForIs, ReleasedIs}
 use Rattle.numbers.specs.declared.RefusalNumbers.{RefusalNumbers}
 use Rattle.numbers.specs.declared.Picked.{Picked}
 use Rattle.numbers.specs.declared.Tested.{Tested}
@@ -51,6 +51,12 @@ list_numbers_one listed r s p q = p ∙ sym q
 
 pub weight_numbers_one : (weighed : Result Weighed Refusal) (r s : WeightNumbers) → WeightNumbersAre weighed r → WeightNumbersAre weighed s → r ≡ s
 weight_numbers_one weighed r s p q = p ∙ sym q
+
+pub list_beside_one : (listed : Listed) (verdict : Result Unit Refusal) (r s : ListNumbers) → ListBesideIs listed verdict r → ListBesideIs listed verdict s → r ≡ s
+list_beside_one listed verdict r s p q = p ∙ sym q
+
+pub weights_beside_one : (weighed : Weighed) (verdict : Result Unit Refusal) (r s : WeightNumbers) → WeightsBesideAre weighed verdict r → WeightsBesideAre weighed verdict s → r ≡ s
+weights_beside_one weighed verdict r s p q = p ∙ sym q
 
 module _ (t : Table) (now : State) where
   pub turn_one : (word : ℕ) (r s : Turned) → TurnIs t now word r → TurnIs t now word s → r ≡ s

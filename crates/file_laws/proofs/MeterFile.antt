@@ -157,6 +157,11 @@ next_further kinds before file at e =
     let least : 4 ≤ (form (kind_at file at)).length = form_long (kind_at file at) whole.known in
     (omega (arith, long, least), whole.ends)
 
+-- what is none of the kinds has no place
+pub form-none : (kind : ℕ) → (kind ≡ 1 → ⊥) → (kind ≡ 2 → ⊥) → (kind ≡ 3 → ⊥) → (kind ≡ 4 → ⊥) → ◌≡◌ {A = Form} (record { length = 0; place = 0 }) (form kind)
+unfolding form
+form-none kind a b c d = rw (ne_eqb kind 1 a, ne_eqb kind 2 b, ne_eqb kind 3 c, ne_eqb kind 4 d)
+
 -- back from a record that isn't refused
 pub not_malformed : (kinds : List ℕ) (before : ℕ) (file : List ℕ) (at : ℕ) → malformed_at kinds before file at ≡ none → (length file ≤ most_bytes) × (is_record kinds before file at ≡ true)
 unfolding malformed_at

@@ -21,11 +21,11 @@ enough (suc k) n h =
     ap (λ (higher : List ℕ). cond (ltb n 10) [] higher ++ (48 + n % 10) ∷ [])
     (enough k (n / 10) ((div-lt_iff_lt-mul {k = 10} {x = n} {y = 10 ^ suc k} (omega arith)).1 (rw (pow-suc 10 (suc k)) at h)))
 
-one_digit : (n : ℕ) → n < 10 → decimal n ≡ (48 + n % 10) ∷ []
+pub one_digit : (n : ℕ) → n < 10 → decimal n ≡ (48 + n % 10) ∷ []
 unfolding decimal_within
 one_digit n h = rw (lt-ltb n 10 h)
 
-more_digits : (n : ℕ) → 10 ≤ n → n < 2 ^ 64 → decimal n ≡ decimal (n / 10) ++ (48 + n % 10) ∷ []
+pub more_digits : (n : ℕ) → 10 ≤ n → n < 2 ^ 64 → decimal n ≡ decimal (n / 10) ++ (48 + n % 10) ∷ []
 unfolding decimal_within
 more_digits n h small = rw (le-ltb n 10 h) (ap (λ (higher : List ℕ). higher ++ (48 + n % 10) ∷ []) (enough 18 (n / 10) (omega arith)))
 

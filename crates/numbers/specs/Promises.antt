@@ -56,6 +56,14 @@ ListNumbersAre listed r = r ≡ list_numbers (listed_as listed)
 abbrev pub WeightNumbersAre : Result Weighed Refusal → WeightNumbers → Type 0
 WeightNumbersAre weighed r = r ≡ weight_numbers (weighed_as weighed)
 
+-- ---- a list, and a list with its weights, beside any verdict: what they hold is told as it is
+abbrev pub ListBesideIs : Listed → Result Unit Refusal → ListNumbers → Type 0
+ListBesideIs listed verdict r = r ≡ list_numbers (record { list = listed.list; length = listed.length; refused = verdict_as verdict })
+
+abbrev pub WeightsBesideAre : Weighed → Result Unit Refusal → WeightNumbers → Type 0
+WeightsBesideAre weighed verdict r =
+    r ≡ weight_numbers (record { list = weighed.list; weights = weighed.weights; length = weighed.length; refused = verdict_as verdict })
+
 -- ---- a call whose answer is in numbers
 -- one decision and its tick
 abbrev pub TurnIs : Table → State → ℕ → Turned → Type 0

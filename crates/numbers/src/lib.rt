@@ -1,7 +1,7 @@
 // The answers of the calls as plain numbers, for C. Each begins with a refusal's two numbers. Where a call is refused, every value after them is 0, and a state is the one that was given.
 #![tactic(auto)]
 
-ghost use Rattle.numbers.specs.Promises.{RefusalNumbersAre, VerdictNumbersAre, TestNumbersAre, LengthNumbersAre, ResponseNumbersAre, PickNumbersAre, ChangeNumbersAre, ListNumbersAre, WeightNumbersAre, TurnIs, TurnForIs, ReleasedIs};
+ghost use Rattle.numbers.specs.Promises.{RefusalNumbersAre, VerdictNumbersAre, TestNumbersAre, LengthNumbersAre, ResponseNumbersAre, PickNumbersAre, ChangeNumbersAre, ListNumbersAre, WeightNumbersAre, ListBesideIs, WeightsBesideAre, TurnIs, TurnForIs, ReleasedIs};
 
 use candidates::Listed;
 use draw::Weighed;
@@ -80,7 +80,7 @@ pub struct WeightNumbers {
     pub weights: [u32; 17],
 }
 
-// What the hook's tick gives: its pick, and the state after it.
+// A pick, and the state after its tick.
 #[derive(Clone, Copy)]
 pub struct Turned {
     pub picked: Picked,
@@ -250,6 +250,37 @@ impl From<Result<Weighed, Refusal>> for WeightNumbers {
                 weights: [0; 17],
             },
         }
+    }
+}
+
+// A list beside a verdict, in numbers: the list is told as it is, also where the verdict is a refusal.
+pub fn list_numbers(listed: Listed, verdict: Result<(), Refusal>) -> ListNumbers
+    ensures { ListBesideIs listed verdict result }
+{
+    let Listed { list, length } = listed;
+    let refusal = RefusalNumbers::from(verdict);
+    ListNumbers {
+        refusal,
+        length,
+        list,
+    }
+}
+
+// A list and its weights beside a verdict, likewise.
+pub fn weight_numbers(weighed: Weighed, verdict: Result<(), Refusal>) -> WeightNumbers
+    ensures { WeightsBesideAre weighed verdict result }
+{
+    let Weighed {
+        list,
+        weights,
+        length,
+    } = weighed;
+    let refused = RefusalNumbers::from(verdict);
+    WeightNumbers {
+        refusal: refused,
+        length,
+        list,
+        weights,
     }
 }
 

@@ -18,13 +18,17 @@ use Rattle.whole_file.specs.declared.MeterFile.{MeterFile}
 
 -- a refused file
 module _ (file : List ℕ) (q : Refusal) (judged : JudgeFileIs file (Err q)) where
-  why : refusal_of file ≡ some (refused_as q)
+  pub why : refusal_of file ≡ some (refused_as q)
   unfolding judging
   why = go (refusal_of file) (ap (λ (x : Judged). x.refused) judged)
     where
       go : (o : Option Refused) → some (refused_as q) ≡ (judging o file).refused → o ≡ some (refused_as q)
       go none h = cc
       go (some r) h = sym h
+
+  pub output_refused : (output : List ℕ) → unless_refused_file (refusal_of file) output ≡ refused_line (refused_as q)
+  unfolding unless_refused_file
+  output_refused output = ap (λ (o : Option Refused). unless_refused_file o output) why
 
   -- both printers write the line of its refusal
   pub refused_outputs : (refused_line (refused_as q) ≡ schedule_output file) × (refused_line (refused_as q) ≡ response_output file)
@@ -33,7 +37,7 @@ module _ (file : List ℕ) (q : Refusal) (judged : JudgeFileIs file (Err q)) whe
 
 -- and one that isn't
 module _ (file : List ℕ) (m : MeterFile) (judged : JudgeFileIs file (Ok m)) where
-  fine : refusal_of file ≡ none
+  pub fine : refusal_of file ≡ none
   unfolding judging
   fine = go (refusal_of file) (ap (λ (x : Judged). x.refused) judged)
     where

@@ -187,7 +187,7 @@ module _ (file : List ℕ) (t : Table) where
     ScheduleMade p = LineMade (to_write file t p.state.pairs) (At file t p.state.pairs) (left file t) (to_write file t s.pairs c) (left file t c) call.buffer call.last p.made
 
     -- a line, or refusal 6, after which there is no more
-    data Went : Type 0 where
+    pub data Went : Type 0 where
       on : (p : Printed) → call.answer ≡ Ok p → ScheduleMade p → Went
       out : (q : Refusal) → call.answer ≡ Err q → to_write file t s.pairs c ≡ refused_line (refused_as q) → Went
 
@@ -269,7 +269,7 @@ module _ (file : List ℕ) (t : Table) where
               none_made s (cursor.Record at ticks) call (event_coming file t s.pairs at ticks) here sound (event-short ticks event_here) now.table now.state i f
               (goes ∙ unless-some _ i f)
 
-  went : (s : State) (c : Cursor) (call : Call file t s c) → At file t s.pairs c → Went s c call
+  pub went : (s : State) (c : Cursor) (call : Call file t s c) → At file t s.pairs c → Went s c call
   unfolding At
   went s (cursor.Header events) call now = went_header s events call now
   went s (cursor.Record at ticks) call now = went_record s at ticks call now

@@ -76,11 +76,11 @@ fn with_task(mut k: Tasks, part: &[u8]) -> Tasks
     k
 }
 
-// One more record, with its payload; the events begin past the last partition or task.
+// One more record, with its payload; the events begin past the last partition or task. What is held is lent: handed on by value it was copied for each record.
 // That the counts don't wrap stands in three `requires`, not in an invariant: C gives its tables with any count.
-fn with_record(mut held: MeterFile, found: Record, part: &[u8]) -> MeterFile
-    requires { (held.table.count < 65536) × (held.tasks.count < 65536) }
-    ensures { result ≡ with_record held (number_of found.kind) part.now found.next }
+fn with_record(held: &mut MeterFile, found: Record, part: &[u8])
+    requires { (held.old.table.count < 65536) × (held.old.tasks.count < 65536) }
+    ensures { held.new ≡ with_record held.old (number_of found.kind) part.now found.next }
 {
     match found.kind {
         Kind::Partition => {
@@ -93,7 +93,6 @@ fn with_record(mut held: MeterFile, found: Record, part: &[u8]) -> MeterFile
         }
         Kind::Word | Kind::Release => {}
     }
-    held
 }
 
 // All records, in one pass. Refusal 8.
@@ -106,7 +105,7 @@ fn load(file: &[u8]) -> Result<MeterFile, Refusal>
     let mut at = 0;
     while at < file.len() {
         let found = read_record(&METER_KINDS, before, file, at)?;
-        held = with_record(held, found, payload(&METER_KINDS, before, file, at));
+        with_record(&mut held, found, payload(&METER_KINDS, before, file, at));
         before = u16::from(found.kind);
         at = found.next;
     }

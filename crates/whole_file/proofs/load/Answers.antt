@@ -8,8 +8,8 @@ returns-in_err-found c =
     let e : c.from_residual.result ≡ Err c.in_err-found.field-0.0 = search rules in
     rw e (load_refused _ _ _ _ c.loop-at.invariant c.loop-at-test.true _ c.read_record.ensures _ c.in_err-found.was)
 
-pub with_record-held-requires : goal.with_record-held-requires
-with_record-held-requires c =
+pub with_record-requires : goal.with_record-requires
+with_record-requires c =
     let t = told_record _ _ _ _ _ c.read_record.ensures _ c.in_ok-found.was in
     (few_partitions_yet _ _ _ _ c.loop-at.invariant c.loop-at-test.true _ _ t, few_tasks_yet _ _ _ _ c.loop-at.invariant c.loop-at-test.true _ _ t)
 
