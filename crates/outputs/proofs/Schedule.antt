@@ -189,7 +189,7 @@ module _ (file : List ℕ) (t : Table) where
     -- a line, or refusal 6, after which there is no more
     pub data Went : Type 0 where
       on : (p : Printed) → call.answer ≡ Ok p → ScheduleMade p → Went
-      out : (q : Refusal) → call.answer ≡ Err q → to_write file t s.pairs c ≡ refused_line (refused_as q) → Went
+      out : (q : Refusal) (i : ℕ) → refused_as q ≡ record { number = 6; second = i } → call.answer ≡ Err q → to_write file t s.pairs c ≡ refused_line (refused_as q) → Went
 
     -- one line, where what comes is known and nothing but 6 is against it
     module _ (d : Coming) (same : coming file t s.pairs c ≡ d) (fault : d.fault ≡ none) (short : length d.line ≤ longest_line)
@@ -213,7 +213,7 @@ module _ (file : List ℕ) (t : Table) where
       unfolding printing
       none_made i e all =
           let q = is_refused s call.answer call.last (said ∙ ap (λ (x : Option ℕ). printing (unless_before 6 x none) s.pairs d call.buffer) e) in
-          out q.0 q.1 (all ∙ sym (ap refused_line q.2))
+          out q.0 i q.2 q.1 (all ∙ sym (ap refused_line q.2))
 
   -- the header
   went_header : (s : State) (events : ℕ) (call : Call file t s (cursor.Header events)) → Moment file t s.pairs events 0 → Went s (cursor.Header events) call
@@ -287,14 +287,14 @@ module _ (file : List ℕ) (t : Table) where
       where
         go : Went s c call → ScheduleMade s c call p
         go (on made d m) = let same : made ≡ p = cc in subst (ScheduleMade s c call) same m
-        go (out q d f) = cc
+        go (out q i six d f) = cc
 
     pub line_refused : (q : Refusal) → call.answer ≡ Err q → to_write file t s.pairs c ≡ refused_line (refused_as q)
     line_refused q e = go (went s c call now)
       where
         go : Went s c call → to_write file t s.pairs c ≡ refused_line (refused_as q)
         go (on made d m) = cc
-        go (out why d f) = let same : why ≡ q = cc in f ∙ ap (λ (x : Refusal). refused_line (refused_as x)) same
+        go (out why i six d f) = let same : why ≡ q = cc in f ∙ ap (λ (x : Refusal). refused_line (refused_as x)) same
 
   -- the calls from a cursor on write what is still to be written there
   joined : {s : State} {c : Cursor} {output : List ℕ} → Lines file t s c output → At file t s.pairs c → output ≡ to_write file t s.pairs c
